@@ -1,0 +1,9 @@
+pub mod Run
+pub mod Bytes
+pub mod While
+pub mod Lexing
+pub mod Regex
+pub mod Digits
+pub mod Bridge
+pub mod Sizes
+pub mod Longest
