@@ -7,3 +7,6 @@ pub mod Digits
 pub mod Bridge
 pub mod Sizes
 pub mod Longest
+pub mod Tables
+pub mod Rows
+pub mod Laid

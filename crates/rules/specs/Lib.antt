@@ -6,3 +6,12 @@ pub mod Regex
 pub mod Patterns
 pub mod Words
 pub mod Statements
+pub mod Tables
+pub mod Objects
+pub mod Buffers
+pub mod Passes
+pub mod Linking
+pub mod Stored
+pub mod Listing
+pub mod Answers
+pub mod Examples

@@ -1,0 +1,287 @@
+-- Section "Pass one and pass two" of document 01, as `SymbolTable::new` and `ObjectFile::new`, and assembling as a whole. Assumes nothing.
+use Prim.Native.Nat.{ℕ, zero, suc, _+_, _-_, _*_, _%_}
+use mathlib.Core.Bool.{Bool, true, false, _&&_, _||_, not}
+use mathlib.Core.List.{List, [], _∷_, _++_, map}
+use mathlib.Core.Option.{Option, none, some}
+use lib.ListN.{length, replicate}
+use lib.Dec.{eqb, leb, ltb}
+use Rattle.rules.specs.Base.{if_then_else_, Outcome, ok, refused, _>>=_, _>>_, require, refuse, refuse2, Span, span, nowhere}
+use Rattle.rules.specs.Capacities.{blockRoom, labelRoom, relocRoom}
+use Rattle.rules.specs.Tokens.{lexed}
+use Rattle.rules.specs.Words.{Range, Op, instr, orig, fill, blkw, stringz, end, external}
+use Rattle.rules.specs.Statements as S
+use Rattle.rules.specs.Statements.{Target, Piece, bits, target, chars, Stmt, statements}
+use Rattle.rules.specs.Tables.{Table, natOrder, nameOrder, look, has, insert, newer, mapT}
+use Rattle.rules.specs.Objects.{Cell, unset, word, Lab, outer, defined, addressOf, Name, Object, object}
+
+-- A STATEMENT'S PARTS
+
+-- the bits that its operands give
+unfoldable pub bitsOf : List Piece → ℕ
+bitsOf [] = 0
+bitsOf (bits n ∷ ps) = n + bitsOf ps
+bitsOf (target t ∷ ps) = bitsOf ps
+bitsOf (chars s ∷ ps) = bitsOf ps
+
+-- its label operand
+unfoldable pub targetOf : List Piece → Option Target
+targetOf [] = none
+targetOf (bits n ∷ ps) = targetOf ps
+targetOf (target t ∷ ps) = some t
+targetOf (chars s ∷ ps) = targetOf ps
+
+-- its string
+unfoldable pub charsOf : List Piece → List ℕ
+charsOf [] = []
+charsOf (bits n ∷ ps) = charsOf ps
+charsOf (target t ∷ ps) = charsOf ps
+charsOf (chars s ∷ ps) = s
+
+-- how many words it takes
+unfoldable pub sizeOf : Op → List Piece → ℕ
+sizeOf instr ps = 1
+sizeOf fill ps = 1
+sizeOf blkw ps = bitsOf ps
+sizeOf stringz ps = length (charsOf ps) + 1
+sizeOf orig ps = 0
+sizeOf end ps = 0
+sizeOf external ps = 0
+
+-- PASS ONE
+
+-- what a name met is, and its first place
+pub record Symbol : Type 0 where
+  pub lab : Lab
+  pub place : Span
+
+abbrev pub symbol : Lab → Span → Symbol
+symbol v p = record { lab = v; place = p }
+
+-- an open block: its start, the counter and its .orig
+pub record Cursor : Type 0 where
+  pub start : ℕ
+  pub counter : ℕ
+  pub place : Span
+
+-- what pass one keeps; `blocks` and `words` count the non-empty blocks closed so far
+pub record One : Type 0 where
+  pub cursor : Option Cursor
+  pub symbols : Table Name Symbol
+  pub relocs : Table ℕ Name
+  pub blocks : ℕ
+  pub words : ℕ
+
+abbrev pub one : Option Cursor → Table Name Symbol → Table ℕ Name → ℕ → ℕ → One
+one c s r b w = record { cursor = c; symbols = s; relocs = r; blocks = b; words = w }
+
+-- A name at an address. The same name at the same address again is no conflict, an external having address 0:
+-- it stays what it was. At another address: 25. 40 when a new name meets a full table.
+unfoldable pub addName : Lab → Span → S.Name → Table Name Symbol → Outcome (Table Name Symbol)
+addName v p n ss = elim (look nameOrder ss (n .text)) [
+  | some s ↦ if eqb (addressOf (s .lab)) (addressOf v) then ok ss else refuse2 25 (s .place) (n .place)
+  | none ↦ if ltb (length ss) labelRoom then ok (insert nameOrder newer (n .text, symbol v (n .place)) ss) else refuse 40 p
+]
+
+unfoldable pub addNames : ℕ → Span → List S.Name → Table Name Symbol → Outcome (Table Name Symbol)
+addNames a p [] ss = ok ss
+addNames a p (n ∷ ns) ss = do
+  ss′ ← addName (defined a) p n ss
+  addNames a p ns ss′
+
+-- Per statement: labels at the counter; 20 at its first label where no block is open,
+unfoldable pub labelled : List S.Name → Span → One → Outcome One
+labelled [] p o = ok o
+labelled (n ∷ ns) p o = elim (o .cursor) [
+  | none ↦ refuse 20 (n .place)
+  | some c ↦ do
+    ss ← addNames (c .counter) p (n ∷ ns) (o .symbols)
+    ok (one (o .cursor) ss (o .relocs) (o .blocks) (o .words))
+]
+
+-- A relocation arises only where .external stands before the .fill; 40 when one at a new address meets a full table.
+unfoldable pub relocated : ℕ → Name → Span → One → Outcome One
+relocated a n p o =
+    if has (look natOrder (o .relocs) a) || ltb (length (o .relocs)) relocRoom then ok (one (o .cursor) (o .symbols) (insert natOrder newer (a, n) (o .relocs)) (o .blocks) (o .words))
+    else refuse 40 p
+
+unfoldable pub filled : S.Name → Span → One → Outcome One
+filled n p o = elim (look nameOrder (o .symbols) (n .text)) [
+  | none ↦ ok o
+  | some s ↦ elim (s .lab) [
+    | defined a ↦ ok o
+    | outer ↦ elim (o .cursor) [ none ↦ refuse 21 p | some c ↦ relocated (c .counter) (n .text) p o ]
+  ]
+]
+
+-- 40 when at .end a new non-empty block meets a full table. Empty blocks are dropped.
+unfoldable pub closed : Cursor → Span → One → Outcome One
+closed c p o =
+    if eqb (c .counter) (c .start) then ok (one none (o .symbols) (o .relocs) (o .blocks) (o .words))
+    else if ltb (o .blocks) blockRoom then ok (one none (o .symbols) (o .relocs) (o .blocks + 1) (o .words + (c .counter - c .start)))
+    else refuse 40 p
+
+-- then directive: 24 of both .orig, 23 of an .end,
+unfoldable pub directed : Op → List Piece → Span → One → Outcome One
+directed instr ps p o = ok o
+directed blkw ps p o = ok o
+directed stringz ps p o = ok o
+directed orig ps p o = elim (o .cursor) [
+  | some c ↦ refuse2 24 (c .place) p
+  | none ↦ ok (one (some (record { start = bitsOf ps; counter = bitsOf ps; place = p })) (o .symbols) (o .relocs) (o .blocks) (o .words))
+]
+directed end ps p o = elim (o .cursor) [ none ↦ refuse 23 p | some c ↦ closed c p o ]
+directed external ps p o = elim (targetOf ps) [
+  | none ↦ ok o
+  | some t ↦ do
+    ss ← addName outer p (t .name) (o .symbols)
+    ok (one (o .cursor) ss (o .relocs) (o .blocks) (o .words))
+]
+directed fill ps p o = elim (targetOf ps) [ none ↦ ok o | some t ↦ filled (t .name) p o ]
+
+-- then advance. The counter may reach xFE00; a sum from xFE01 to x10000 is 27, above x10000 is 26. A size of 0 never refuses.
+unfoldable pub advanced : ℕ → Span → One → Outcome One
+advanced n p o = elim (o .cursor) [
+  | none ↦ ok o
+  | some c ↦
+      let a = c .counter + n in
+      if eqb n 0 then ok o
+      else if leb a 0xfe00 then ok (one (some (record { start = c .start; counter = a; place = c .place })) (o .symbols) (o .relocs) (o .blocks) (o .words))
+      else if leb a 0x10000 then refuse 27 p
+      else refuse 26 p
+]
+
+-- inside a stage the first met in the source, 22 at its end
+unfoldable pub passOne : List Stmt → One → Outcome One
+passOne [] o = elim (o .cursor) [ none ↦ ok o | some c ↦ refuse 22 (c .place) ]
+passOne (s ∷ ss) o = do
+  a ← labelled (s .labels) (s .place) o
+  b ← directed (s .op) (s .pieces) (s .place) a
+  c ← advanced (sizeOf (s .op) (s .pieces)) (s .place) b
+  passOne ss c
+
+-- PASS TWO
+
+-- the address of a label for a .fill; 31 where there is no such label
+unfoldable pub address : Table Name Symbol → S.Name → Outcome ℕ
+address ss n = elim (look nameOrder ss (n .text)) [ none ↦ refuse 31 (n .place) | some s ↦ ok (addressOf (s .lab)) ]
+
+-- A label operand's offset is the label's address less the address after the instruction, modulo 65536, taken as signed; outside its field: 29.
+unfoldable pub offset : ℕ → ℕ → Range → Span → Outcome ℕ
+offset a pc r p =
+    let d = (a + 65536 - pc) % 65536 in
+    if leb d (r .high) || leb (65536 - r .low) d then ok (d % r .modulus)
+    else refuse 29 p
+
+-- 30 of an external, 31 where there is no such label
+unfoldable pub offsetTo : Table Name Symbol → ℕ → Target → Outcome ℕ
+offsetTo ss pc t = elim (look nameOrder ss (t .name .text)) [
+  | none ↦ refuse 31 (t .name .place)
+  | some s ↦ elim (s .lab) [ outer ↦ refuse 30 (t .name .place) | defined a ↦ offset a pc (t .field) (t .name .place) ]
+]
+
+-- the words of a statement at an address; .blkw words are unset
+unfoldable pub wordsOf : Table Name Symbol → ℕ → Op → List Piece → Outcome (List Cell)
+wordsOf ss a orig ps = ok []
+wordsOf ss a end ps = ok []
+wordsOf ss a external ps = ok []
+wordsOf ss a blkw ps = ok (replicate (bitsOf ps) unset)
+wordsOf ss a stringz ps = ok (map word (charsOf ps ++ 0 ∷ []))
+wordsOf ss a fill ps = elim (targetOf ps) [
+  | none ↦ ok (word (bitsOf ps) ∷ [])
+  | some t ↦ do
+    n ← address ss (t .name)
+    ok (word n ∷ [])
+]
+wordsOf ss a instr ps = elim (targetOf ps) [
+  | none ↦ ok (word (bitsOf ps) ∷ [])
+  | some t ↦ do
+    n ← offsetTo ss (a + 1) t
+    ok (word (bitsOf ps + n) ∷ [])
+]
+
+-- a block written: its start, words and .orig
+pub record Placed : Type 0 where
+  pub start : ℕ
+  pub words : List Cell
+  pub place : Span
+
+abbrev pub placed : ℕ → List Cell → Span → Placed
+placed a ws p = record { start = a; words = ws; place = p }
+
+-- the open block, if there is one, and those closed, by start
+pub record Two : Type 0 where
+  pub current : Option Placed
+  pub blocks : List Placed
+
+abbrev pub two : Option Placed → List Placed → Two
+two c b = record { current = c; blocks = b }
+
+-- two blocks share an address: each starts before the other ends
+unfoldable pub overlap : ℕ → ℕ → ℕ → ℕ → Bool
+overlap a n b m = ltb a (b + m) && ltb b (a + n)
+
+-- 28: both .orig, earlier first
+unfoldable pub overlapping : Span → Span → Outcome (List Placed)
+overlapping p q = if leb (p .start) (q .start) then refuse2 28 p q else refuse2 28 q p
+
+-- a block among those closed: 28 with the first of them, by start, that it overlaps
+unfoldable pub place : Placed → List Placed → Outcome (List Placed)
+place x [] = ok (x ∷ [])
+place x (y ∷ ys) =
+    if overlap (x .start) (length (x .words)) (y .start) (length (y .words)) then overlapping (x .place) (y .place)
+    else if ltb (x .start) (y .start) then ok (x ∷ y ∷ ys)
+    else do
+      zs ← place x ys
+      ok (y ∷ zs)
+
+-- 21: a statement outside every block
+unfoldable pub emit : Table Name Symbol → Op → List Piece → Span → Two → Outcome Two
+emit ss o ps p t = elim (t .current) [
+  | none ↦ refuse 21 p
+  | some x ↦ do
+    ws ← wordsOf ss (x .start + length (x .words)) o ps
+    ok (two (some (placed (x .start) (x .words ++ ws) (x .place))) (t .blocks))
+]
+
+-- Empty blocks are dropped.
+unfoldable pub finish : Two → Outcome Two
+finish t = elim (t .current) [
+  | none ↦ ok t
+  | some x ↦
+      if eqb (length (x .words)) 0 then ok (two none (t .blocks))
+      else do
+        bs ← place x (t .blocks)
+        ok (two none bs)
+]
+
+unfoldable pub written : Table Name Symbol → Op → List Piece → Span → Two → Outcome Two
+written ss orig ps p t = ok (two (some (placed (bitsOf ps) [] p)) (t .blocks))
+written ss end ps p t = finish t
+written ss external ps p t = ok t
+written ss instr ps p t = emit ss instr ps p t
+written ss fill ps p t = emit ss fill ps p t
+written ss blkw ps p t = emit ss blkw ps p t
+written ss stringz ps p t = emit ss stringz ps p t
+
+unfoldable pub passTwo : Table Name Symbol → List Stmt → Two → Outcome Two
+passTwo ss [] t = ok t
+passTwo ss (s ∷ rest) t = do
+  u ← written ss (s .op) (s .pieces) (s .place) t
+  passTwo ss rest u
+
+-- THE WHOLE
+
+-- Order in assembling: 11, 12, then lexical refusals, then 13 to 16, then pass one, then 41, then pass two.
+-- 41 is given exactly when the words of all blocks together exceed the lent words, `room`.
+unfoldable pub assemble : ℕ → List ℕ → Outcome Object
+assemble room source = do
+  ts ← lexed source
+  ss ← statements ts
+  o ← passOne ss (one none [] [] 0 0)
+  require (leb (o .words) room) 41 nowhere
+  t ← passTwo (o .symbols) ss (two none [])
+  ok (object (map (λ b. (b .start, b .words)) (t .blocks)) (mapT (λ n s. s .lab) (o .symbols)) (o .relocs))
+
+unfoldable pub assembling : Unit {0}
+unfolding bitsOf targetOf charsOf sizeOf addName addNames labelled relocated filled closed directed advanced passOne address offset offsetTo wordsOf overlap overlapping place emit finish written passTwo assemble
+assembling = tt
