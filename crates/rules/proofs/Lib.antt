@@ -7,3 +7,4 @@ pub mod Digits
 pub mod Bridge
 pub mod Sizes
 pub mod Longest
+pub mod Fields
