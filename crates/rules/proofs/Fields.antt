@@ -12,7 +12,7 @@ use Rattle.rules.specs.Base.{if_then_else_}
 use Rattle.rules.specs.Words.{Range, signed, unsigned, fits, field, extend}
 
 -- a test with its answer
-by-test : {A : Type 0} (t : Bool) → (t ≡ true → A) → (t ≡ false → A) → A
+pub by-test : {A : Type 0} (t : Bool) → (t ≡ true → A) → (t ≡ false → A) → A
 by-test true f g = f refl
 by-test false f g = g refl
 
@@ -125,6 +125,9 @@ module _ (w : ℕ) (ok : Width w) where
       (λ t. let h = ltb-false _ _ t in rw (extend-high b h) (omega (arith, room)))
 
   -- an unsigned field's bits are the number itself
+  pub below-unsigned : (d : ℕ) → fits (unsigned w) d ≡ true → d < 2 ^ w
+  below-unsigned d e = ⊎-elim (λ h. omega (arith, pow-pos w)) (λ h. absurd (omega arith)) (fits-cases (unsigned w) d e)
+
   pub field-unsigned : (d : ℕ) → fits (unsigned w) d ≡ true → field (unsigned w) d ≡ d
   unfolding field
-  field-unsigned d e = ⊎-elim (λ h. mod-eq-of-lt (omega (arith, pow-pos w))) (λ h. absurd (omega arith)) (fits-cases (unsigned w) d e)
+  field-unsigned d e = mod-eq-of-lt (below-unsigned d e)

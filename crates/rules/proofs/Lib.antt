@@ -8,3 +8,4 @@ pub mod Bridge
 pub mod Sizes
 pub mod Longest
 pub mod Fields
+pub mod Disassembly
