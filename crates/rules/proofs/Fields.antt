@@ -1,6 +1,6 @@
 -- The fields of a word, once over the width w, from 1 to 16: what fits, its bits, and the bits read back. Assumes nothing.
 use Prim.Native.Nat.{ℕ, zero, suc, _+_, _-_, _*_, _%_, _^_, _≤_, _<_}
-use native.Mathlib.Nat.{mod-lt, mod-eq-of-lt, add-mul-mod-self-right, two-pow-succ, le-of-eq}
+use native.Mathlib.Nat.{mod-lt, mod-eq-of-lt, add-mul-mod-self-right, mod-self, zero-mod, sub-zero, two-pow-succ}
 use native.Mathlib.Omega.{arith}
 use mathlib.Core.Bool.{Bool, true, false, _||_, _&&_}
 use mathlib.Core.Logic.{_⊎_, inl, inr, ⊎-elim}
@@ -9,6 +9,8 @@ use lib.Dec.{leb, ltb}
 use lib.Pow.{pow-pos, high-ones, pow-mono}
 use borrow.Author.Tests.{lt-ltb, le-ltb, le-leb, lt-leb, leb-true, leb-false, ltb-true, ltb-false}
 use Rattle.rules.specs.Base.{if_then_else_}
+use Rattle.rules.specs.Tokens.{Num, plus, minus}
+use Rattle.rules.specs.Statements.{inRange, reduced}
 use Rattle.rules.specs.Words.{Range, signed, unsigned, fits, field, extend}
 
 -- a test with its answer
@@ -131,3 +133,31 @@ module _ (w : ℕ) (ok : Width w) where
   pub field-unsigned : (d : ℕ) → fits (unsigned w) d ≡ true → field (unsigned w) d ≡ d
   unfolding field
   field-unsigned d e = mod-eq-of-lt (below-unsigned d e)
+
+-- a whole number that is read, modulo 65536
+pub sixteen : Num → ℕ
+sixteen (plus n) = n
+sixteen (minus n) = (65536 - n) % 65536
+
+module _ (w : ℕ) (ok : Width w) where
+  minus-some : (n : ℕ) → 1 ≤ n → n ≤ 2 ^ (w - 1) → (65536 - n ≡ (2 ^ w - n) + (65536 - 2 ^ w)) × (2 ^ w - n < 2 ^ w)
+  minus-some n l h = (omega (arith, halves w ok, room w ok), omega (arith, halves w ok))
+
+  -- a number in the range of a signed field: the reader's bits are the field of the number
+  pub number-field : (n : Num) → inRange (signed w) n ≡ true → reduced (signed w) n ≡ field (signed w) (sixteen n)
+  unfolding inRange reduced field sixteen
+  number-field (plus n) e = let h = leb-true n _ e in sym (mod-eq-of-lt (omega (arith, halves w ok, pow-pos (w - 1))))
+  number-field (minus zero) e = ap (λ (k : ℕ). k % 2 ^ w) (sub-zero (2 ^ w)) ∙ mod-self (2 ^ w) ∙ sym (zero-mod (2 ^ w))
+  number-field (minus (suc n)) e =
+      let h = leb-true (suc n) _ e in
+      let m = minus-some (suc n) (omega arith) h in
+      mod-eq-of-lt (m .1) ∙ sym (ap (λ (k : ℕ). k % 2 ^ w) (mod-eq-of-lt (omega arith) ∙ m .0) ∙ field-high w ok (2 ^ w - suc n) (m .1))
+
+  pub number-fits : (n : Num) → inRange (signed w) n ≡ true → fits (signed w) (sixteen n) ≡ true
+  unfolding inRange sixteen
+  number-fits (plus n) e = fits-above (signed w) n (leb-true n _ e)
+  number-fits (minus zero) e = fits-above (signed w) 0 (omega arith)
+  number-fits (minus (suc n)) e =
+      let h = leb-true (suc n) _ e in
+      let m : (65536 - suc n) % 65536 ≡ 65536 - suc n = mod-eq-of-lt (omega arith) in
+      fits-below (signed w) _ (omega (arith, halves w ok, room w ok)) (omega arith)
