@@ -10,3 +10,5 @@ pub mod Longest
 pub mod Tables
 pub mod Rows
 pub mod Laid
+pub mod Fields
+pub mod Disassembly

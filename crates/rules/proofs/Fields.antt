@@ -1,0 +1,163 @@
+-- The fields of a word, once over the width w, from 1 to 16: what fits, its bits, and the bits read back. Assumes nothing.
+use Prim.Native.Nat.{ℕ, zero, suc, _+_, _-_, _*_, _%_, _^_, _≤_, _<_}
+use native.Mathlib.Nat.{mod-lt, mod-eq-of-lt, add-mul-mod-self-right, mod-self, zero-mod, sub-zero, two-pow-succ}
+use native.Mathlib.Omega.{arith}
+use mathlib.Core.Bool.{Bool, true, false, _||_, _&&_}
+use mathlib.Core.Logic.{_⊎_, inl, inr, ⊎-elim}
+use mathlib.Core.Path.{_≡_, refl, ap, sym, subst, _∙_}
+use lib.Dec.{leb, ltb}
+use lib.Pow.{pow-pos, high-ones, pow-mono}
+use borrow.Author.Tests.{lt-ltb, le-ltb, le-leb, lt-leb, leb-true, leb-false, ltb-true, ltb-false}
+use Rattle.rules.specs.Base.{if_then_else_}
+use Rattle.rules.specs.Tokens.{Num, plus, minus}
+use Rattle.rules.specs.Statements.{inRange, reduced}
+use Rattle.rules.specs.Words.{Range, signed, unsigned, fits, field, extend}
+
+-- a test with its answer
+pub by-test : {A : Type 0} (t : Bool) → (t ≡ true → A) → (t ≡ false → A) → A
+by-test true f g = f refl
+by-test false f g = g refl
+
+or-true : (a b : Bool) → (a || b) ≡ true → (a ≡ true) ⊎ (b ≡ true)
+or-true true b e = inl refl
+or-true false b e = inr e
+
+or-right : (a b : Bool) → b ≡ true → (a || b) ≡ true
+or-right true b e = refl
+or-right false b e = e
+
+and-left : (a b : Bool) → (a && b) ≡ true → a ≡ true
+and-left true b e = refl
+and-left false b e = e
+
+and-right : (a b : Bool) → (a && b) ≡ true → b ≡ true
+and-right true b e = e
+and-right false b e = let z : _≡_ {A = ℕ} 0 1 = cc in absurd (omega arith)
+
+-- what fits a range: at most high, or at most low below zero
+pub fits-cases : (r : Range) (d : ℕ) → fits r d ≡ true → (d ≤ r .high) ⊎ ((65536 - r .low ≤ d) × (d < 65536))
+unfolding fits
+fits-cases r d e =
+    ⊎-elim
+    (λ a. inl (leb-true _ _ a))
+    (λ b. inr (leb-true _ _ (and-left _ _ b), ltb-true _ _ (and-right (leb (65536 - r .low) d) _ b)))
+    (or-true (leb d (r .high)) (leb (65536 - r .low) d && ltb d 65536) e)
+
+pub fits-above : (r : Range) (d : ℕ) → d ≤ r .high → fits r d ≡ true
+unfolding fits
+fits-above r d h = rw (le-leb d (r .high) h)
+
+pub fits-below : (r : Range) (d : ℕ) → 65536 - r .low ≤ d → d < 65536 → fits r d ≡ true
+unfolding fits
+fits-below r d h l = rw (le-leb _ _ h, lt-ltb d 65536 l) (or-right (leb d (r .high)) true refl)
+
+pub fits-not : (r : Range) (d : ℕ) → r .high < d → d < 65536 - r .low → fits r d ≡ false
+unfolding fits
+fits-not r d h l = rw (lt-leb d (r .high) h, lt-leb (65536 - r .low) d l)
+
+-- a width from 1 to 16
+pub record Width (w : ℕ) : Type 0 where
+  pub least : 1 ≤ w
+  pub most : w ≤ 16
+
+module _ (w : ℕ) (ok : Width w) where
+  -- a field's numbers are two halves
+  pub halves : 2 ^ (w - 1) + 2 ^ (w - 1) ≡ 2 ^ w
+  halves = sym (two-pow-succ (w - 1)) ∙ ap (λ (k : ℕ). 2 ^ k) (omega arith)
+
+  -- sixteen bits hold a field's numbers a whole number of times
+  pub times : 65536 - 2 ^ w ≡ (2 ^ (16 - w) - 1) * 2 ^ w
+  times = let e : 16 ≡ 16 - w + w = omega arith in ap (λ (k : ℕ). 2 ^ k - 2 ^ w) e ∙ high-ones (16 - w) w
+
+  pub room : 2 ^ w ≤ 65536
+  room = pow-mono (ok .most)
+
+  -- the encoded value is below 2 ^ w
+  pub field-below : (d : ℕ) → field (signed w) d < 2 ^ w
+  unfolding field
+  field-below d = mod-lt d (pow-pos w)
+
+  field-high : (b : ℕ) → b < 2 ^ w → field (signed w) (b + (65536 - 2 ^ w)) ≡ b
+  unfolding field
+  field-high b l = ap (λ (k : ℕ). (b + k) % 2 ^ w) times ∙ add-mul-mod-self-right b (2 ^ (16 - w) - 1) (2 ^ w) ∙ mod-eq-of-lt l
+
+  extend-low : (b : ℕ) → b < 2 ^ (w - 1) → extend w b ≡ b
+  unfolding extend if_then_else_
+  extend-low b l = rw (lt-ltb b (2 ^ (w - 1)) l)
+
+  extend-high : (b : ℕ) → 2 ^ (w - 1) ≤ b → extend w b ≡ b + (65536 - 2 ^ w)
+  unfolding extend if_then_else_
+  extend-high b l = rw (le-ltb b (2 ^ (w - 1)) l)
+
+  -- encoding undoes decoding
+  pub field-extend : (b : ℕ) → b < 2 ^ w → field (signed w) (extend w b) ≡ b
+  unfolding field
+  field-extend b l =
+      by-test (ltb b (2 ^ (w - 1)))
+      (λ t. ap (field (signed w)) (extend-low b (ltb-true _ _ t)) ∙ mod-eq-of-lt l)
+      (λ t. ap (field (signed w)) (extend-high b (ltb-false _ _ t)) ∙ field-high b l)
+
+  -- decoding undoes encoding
+  pub extend-field : (d : ℕ) → fits (signed w) d ≡ true → extend w (field (signed w) d) ≡ d
+  unfolding field
+  extend-field d e = ⊎-elim up down (fits-cases (signed w) d e) where
+    up : d ≤ 2 ^ (w - 1) - 1 → extend w (d % 2 ^ w) ≡ d
+    up h = let p = pow-pos (w - 1) in
+        ap (extend w) (mod-eq-of-lt (omega (arith, halves))) ∙ extend-low d (omega arith)
+
+    down : (65536 - 2 ^ (w - 1) ≤ d) × (d < 65536) → extend w (d % 2 ^ w) ≡ d
+    down h =
+        let b : ℕ = d - (65536 - 2 ^ w) in
+        let s : d ≡ b + (65536 - 2 ^ w) = omega (arith, halves, room) in
+        let l : b < 2 ^ w = omega (arith, halves, room) in
+        let e : d % 2 ^ w ≡ b = ap (λ (k : ℕ). k % 2 ^ w) s ∙ field-high b l in
+        ap (extend w) e ∙ extend-high b (omega (arith, halves, room)) ∙ sym s
+
+  -- what is read back fits, and is sixteen bits
+  pub extend-fits : (b : ℕ) → b < 2 ^ w → fits (signed w) (extend w b) ≡ true
+  extend-fits b l =
+      by-test (ltb b (2 ^ (w - 1)))
+      (λ t. let h = ltb-true _ _ t in rw (extend-low b h) (fits-above (signed w) b (omega arith)))
+      (λ t. let h = ltb-false _ _ t in rw (extend-high b h) (fits-below (signed w) (b + (65536 - 2 ^ w)) (omega (arith, halves, room)) (omega (arith, room))))
+
+  pub extend-below : (b : ℕ) → b < 2 ^ w → extend w b < 65536
+  extend-below b l =
+      by-test (ltb b (2 ^ (w - 1)))
+      (λ t. let h = ltb-true _ _ t in rw (extend-low b h) (omega (arith, room)))
+      (λ t. let h = ltb-false _ _ t in rw (extend-high b h) (omega (arith, room)))
+
+  -- an unsigned field's bits are the number itself
+  pub below-unsigned : (d : ℕ) → fits (unsigned w) d ≡ true → d < 2 ^ w
+  below-unsigned d e = ⊎-elim (λ h. omega (arith, pow-pos w)) (λ h. absurd (omega arith)) (fits-cases (unsigned w) d e)
+
+  pub field-unsigned : (d : ℕ) → fits (unsigned w) d ≡ true → field (unsigned w) d ≡ d
+  unfolding field
+  field-unsigned d e = mod-eq-of-lt (below-unsigned d e)
+
+-- a whole number that is read, modulo 65536
+pub sixteen : Num → ℕ
+sixteen (plus n) = n
+sixteen (minus n) = (65536 - n) % 65536
+
+module _ (w : ℕ) (ok : Width w) where
+  minus-some : (n : ℕ) → 1 ≤ n → n ≤ 2 ^ (w - 1) → (65536 - n ≡ (2 ^ w - n) + (65536 - 2 ^ w)) × (2 ^ w - n < 2 ^ w)
+  minus-some n l h = (omega (arith, halves w ok, room w ok), omega (arith, halves w ok))
+
+  -- a number in the range of a signed field: the reader's bits are the field of the number
+  pub number-field : (n : Num) → inRange (signed w) n ≡ true → reduced (signed w) n ≡ field (signed w) (sixteen n)
+  unfolding inRange reduced field sixteen
+  number-field (plus n) e = let h = leb-true n _ e in sym (mod-eq-of-lt (omega (arith, halves w ok, pow-pos (w - 1))))
+  number-field (minus zero) e = ap (λ (k : ℕ). k % 2 ^ w) (sub-zero (2 ^ w)) ∙ mod-self (2 ^ w) ∙ sym (zero-mod (2 ^ w))
+  number-field (minus (suc n)) e =
+      let h = leb-true (suc n) _ e in
+      let m = minus-some (suc n) (omega arith) h in
+      mod-eq-of-lt (m .1) ∙ sym (ap (λ (k : ℕ). k % 2 ^ w) (mod-eq-of-lt (omega arith) ∙ m .0) ∙ field-high w ok (2 ^ w - suc n) (m .1))
+
+  pub number-fits : (n : Num) → inRange (signed w) n ≡ true → fits (signed w) (sixteen n) ≡ true
+  unfolding inRange sixteen
+  number-fits (plus n) e = fits-above (signed w) n (leb-true n _ e)
+  number-fits (minus zero) e = fits-above (signed w) 0 (omega arith)
+  number-fits (minus (suc n)) e =
+      let h = leb-true (suc n) _ e in
+      let m : (65536 - suc n) % 65536 ≡ 65536 - suc n = mod-eq-of-lt (omega arith) in
+      fits-below (signed w) _ (omega (arith, halves w ok, room w ok)) (omega arith)
