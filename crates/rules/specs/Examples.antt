@@ -103,6 +103,10 @@ unfoldable pub computing : Unit {0}
 unfolding lexing parsing sorting assembling linking printing run
 computing = tt
 
-pub examples : unfold table in Each table
-unfolding computing table
+-- THE THEOREM, by computation
+unfoldable pub EveryRow : Type 0
+EveryRow = Each table
+
+pub examples : EveryRow
+unfolding computing table EveryRow
 examples = (refl, (refl, (refl, (refl, (refl, (refl, (refl, (refl, (refl, (refl, (refl, (refl, (refl, (refl, (refl, (refl, (refl, tt)))))))))))))))))

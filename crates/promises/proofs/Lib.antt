@@ -1,0 +1,2 @@
+-- The page of promises. Assumes nothing.
+pub mod Promises
