@@ -4,6 +4,7 @@ pub mod While
 pub mod Lexing
 pub mod Regex
 pub mod Digits
-pub mod Bridge
 pub mod Sizes
-pub mod Longest
+pub mod Shapes
+pub mod Best
+pub mod Starts
