@@ -87,3 +87,8 @@ only-alive c s (r ∷ rs) n m = go (dead (after c (r .pattern))) refl (only-aliv
         best-cons r rs n m (c ∷ s)
         ∙ pick-same (longest (r .pattern) (c ∷ s)) r (λ k x. best rs k x (c ∷ s)) (λ k x. best (masked (alive c rs) rs) k x (c ∷ s)) h n m (c ∷ s)
         ∙ sym (best-cons r (masked (alive c rs) rs) n m (c ∷ s))
+
+-- no row is left
+pub rows-end : (n : ℕ) (m : Match) (s : List ℕ) → best [] n m s ≡ m
+unfolding best
+rows-end n m s = refl

@@ -8,3 +8,5 @@ pub mod Sizes
 pub mod Shapes
 pub mod Best
 pub mod Starts
+pub mod Heads
+pub mod FirstByte

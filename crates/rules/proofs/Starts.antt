@@ -1,11 +1,12 @@
 -- Which rows of the table can begin with a byte, class by class: computed at each byte below 128, and none above. Assumes nothing.
 use Prim.Native.Nat.{ℕ, zero, suc, _≤_, _<_}
-use mathlib.Core.Path.{_≡_, refl, ap, _∙_}
+use mathlib.Core.Path.{_≡_, refl, ap, sym, _∙_}
+use mathlib.Core.Logic.{_⊎_, inl, inr, ⊎-elim}
 use mathlib.Core.Bool.{Bool, true, false, not, _&&_, _||_}
 use mathlib.Core.List.{List, [], _∷_}
 use native.Mathlib.Omega.{arith}
 use lib.Dec.{T, eqb, leb, ltb, ltb→lt}
-use borrow.Author.Tests.{ne-eqb, lt-leb, le-leb}
+use borrow.Author.Tests.{ne-eqb, lt-leb, le-leb, not-true, ltb-true, ltb-false}
 use Rattle.rules.specs.Base.{if_then_else_, is, within}
 use Rattle.rules.specs.Regex.{matching}
 use Rattle.rules.specs.Patterns.{Row, patterns, best, tokenBy}
@@ -36,6 +37,10 @@ implies : (a b : Bool) → a ≡ true → T (not a || b) → T b
 implies true b e t = t
 implies false b e t = let z : _≡_ {A = ℕ} 0 1 = cc in absurd (omega arith)
 
+T-true : (b : Bool) → T b → b ≡ true
+T-true true t = refl
+T-true false t = absurd t
+
 -- the rows of the table at these places, counted from 0
 member : ℕ → List ℕ → Bool
 member i [] = false
@@ -61,6 +66,15 @@ starts p ks t c l e s =
     only-alive c s patterns 0 (match (bad 10) 1)
     ∙ ap (λ (bs : List Bool). best (masked bs patterns) 0 (match (bad 10) 1) (c ∷ s))
       (sameBools-eq (alive c patterns) (marks 17 0 ks) (implies (p c) _ e (inRun (λ x. not (p x) || sameBools (alive x patterns) (marks 17 0 ks)) 0 128 t c (omega arith) (omega arith))))
+
+-- what is of the class p, of the bytes below 128, is of q
+unfoldable pub Inside : (ℕ → Bool) → (ℕ → Bool) → Type 0
+unfolding lexing
+Inside p q = T (run (λ x. not (p x) || q x) 0 128)
+
+pub inside : (p q : ℕ → Bool) → Inside p q → (c : ℕ) → c < 128 → p c ≡ true → q c ≡ true
+unfolding Inside
+inside p q t c l e = T-true (q c) (implies (p c) (q c) e (inRun (λ x. not (p x) || q x) 0 128 t c (omega arith) (omega arith)))
 
 pub digit-starts : Starts digit (1 ∷ [])
 unfolding Starts
@@ -118,6 +132,17 @@ pub space-starts : Starts space (0 ∷ [])
 unfolding Starts
 space-starts = tt
 
+pub low-or-high : (c : ℕ) → (c < 128) ⊎ (128 ≤ c)
+low-or-high c = go (ltb c 128) refl
+  where
+    go : (b : Bool) → ltb c 128 ≡ b → (c < 128) ⊎ (128 ≤ c)
+    go true e = inl (ltb-true c 128 e)
+    go false e = inr (ltb-false c 128 e)
+
+-- [\dA-Fa-f]
+abbrev pub hexDigit : ℕ → Bool
+hexDigit c = digit c || within "A" "F" c || within "a" "f" c
+
 -- a byte above is of no class
 module _ (c : ℕ) (h : 128 ≤ c) where
   not-equal : (k : ℕ) → T (ltb k 128) → eqb c k ≡ false
@@ -128,6 +153,14 @@ module _ (c : ℕ) (h : 128 ≤ c) where
 
   from : (k : ℕ) → T (ltb k 128) → leb k c ≡ true
   from k t = le-leb k c (omega (arith, ltb→lt k 128 t))
+
+  high-hex : hexDigit c ≡ false
+  unfolding digit
+  high-hex = let u : Unit {0} = tt in simp (not-below, from)
+
+  high-value : ltb (value c) 16 ≡ false
+  unfolding if_then_else_ digit upper value
+  high-value = let u : Unit {0} = tt in simp (not-below, from)
 
   none-starts : alive c patterns ≡ marks 17 0 []
   unfolding marks alive patterns matching lexing
@@ -140,3 +173,26 @@ module _ (c : ℕ) (h : 128 ≤ c) where
   pub high-at : (s : List ℕ) → tokenAt c s ≡ match (bad 10) 1
   unfolding lexing
   high-at s = let u : Unit {0} = tt in simp (not-equal, not-below, from)
+
+low-hex : Inside (λ c. not (ltb (value c) 16)) (λ c. not (hexDigit c))
+unfolding Inside
+low-hex = tt
+
+low-value : Inside (λ c. ltb (value c) 16) hexDigit
+unfolding Inside
+low-value = tt
+
+hex-letters : Inside hexDigit wordy
+unfolding Inside
+hex-letters = tt
+
+-- what is a hex digit has a value below 16, and nothing else has
+pub hex-value : (c : ℕ) → hexDigit c ≡ ltb (value c) 16
+hex-value c = ⊎-elim (λ l. go l (ltb (value c) 16) refl) (λ h. high-hex c h ∙ sym (high-value c h)) (low-or-high c)
+  where
+    go : c < 128 → (b : Bool) → ltb (value c) 16 ≡ b → hexDigit c ≡ b
+    go l true e = inside (λ x. ltb (value x) 16) hexDigit low-value c l e
+    go l false e = not-true (hexDigit c) (inside (λ x. not (ltb (value x) 16)) (λ x. not (hexDigit x)) low-hex c l (ap not e))
+
+pub hex-wordy : (c : ℕ) → hexDigit c ≡ true → wordy c ≡ true
+hex-wordy c e = ⊎-elim (λ l. inside hexDigit wordy hex-letters c l e) (λ h. let z : _≡_ {A = ℕ} 0 1 = cc (high-hex c h) in absurd (omega arith)) (low-or-high c)

@@ -13,22 +13,22 @@ use Rattle.rules.specs.Regex.{Regex, empty, byte, _then_, _or_, star, Ma
 use Rattle.rules.specs.Tokens.{Found, token, blank, bad, Match, match, mark, word, directive, digit, letter, wordy, space, upper, dec, decNeg, hex, hexNeg, reg, read, afterQuote, lexing, Token, tokenIn, kept}
 
 -- the classes and repeats that lex.rs writes
-abbrev c1 : Char → Regex
+abbrev pub c1 : Char → Regex
 c1 k = byte (is k)
 
-abbrev or1 : Char → Char → Regex
+abbrev pub or1 : Char → Char → Regex
 or1 k l = byte (λ c. is k c || is l c)
 
-abbrev d : Regex
+abbrev pub d : Regex
 d = byte digit
 
-abbrev w* : Regex
+abbrev pub w* : Regex
 w* = star (byte wordy)
 
-abbrev maybe : Regex → Regex
+abbrev pub maybe : Regex → Regex
 maybe r = empty or r
 
-abbrev some1 : Regex → Regex
+abbrev pub some1 : Regex → Regex
 some1 r = r then star r
 
 -- a pattern, and what its match is, from the matched bytes and the rest

@@ -1,0 +1,224 @@
+-- The table's longest match by the first byte: what it is and how long, case by case. Assumes nothing.
+use Prim.Native.Nat.{ℕ, zero, suc, _+_, _≤_, _<_}
+use mathlib.Core.Path.{_≡_, refl, ap, sym, _∙_}
+use mathlib.Core.Bool.{Bool, true, false, not, _&&_, _||_}
+use mathlib.Core.Logic.{⊎-elim}
+use mathlib.Core.List.{List, [], _∷_, map}
+use mathlib.Core.Option.{Option, none, some}
+use native.Mathlib.Nat.{zero-add}
+use native.Mathlib.Omega.{arith}
+use borrow.Author.Tests.{eqb-true, eqb-false, not-false}
+use lib.Dec.{T, eqb, ltb}
+use lib.ListN.{length, take, drop, length-take}
+use lib.Seq.{drop-drop}
+use Rattle.rules.specs.Base.{if_then_else_, is, within}
+use Rattle.rules.specs.Regex.{Regex, fail, empty, byte, _then_, _or_, star, null, after, longest, longestFrom, matching}
+use Rattle.rules.specs.Patterns.{c1, or1, d, w*, maybe, some1, best, tokenBy}
+use Rattle.rules.specs.Tokens.{Match, match, Found, token, word, bad, while, begins, wordy, digit, letter, upper, value, read, dec, numberAfter, wrongAfter, wordAt, afterX, afterMinus, afterHash, decNeg, hex, hexNeg, lexing}
+use Rattle.rules.proofs.Regex.{longest-right}
+use Rattle.rules.proofs.Shapes.{star-no, star-long, class-star, class2-star, class-plus, class-one, class-maybe, maybe-apart}
+use Rattle.rules.proofs.Best.{row-none, row-more, row-less, rows-end}
+use Rattle.rules.proofs.Starts.{rowsAt, starts, digit-starts, hexDigit, hex-value, hex-wordy}
+use Rattle.rules.proofs.Heads.{drop-taken, begins-apart, begins-within, begins-same, while-same, while-longer, while-none, while-one, begins-count}
+use Rattle.rules.proofs.Sizes.{digit-wordy, letter-wordy}
+use Rattle.rules.proofs.While.{yes-cons}
+
+longest-fits : (r : Regex) (s : List ℕ) (k : ℕ) → longest r s ≡ some k → k ≤ length s
+longest-fits r s k e =
+    ⊎-elim
+    (λ a. let q : a .0 ≡ k = cc (a .2) in omega (arith, a .1 .fits))
+    (λ a. let z : _≡_ {A = ℕ} 0 1 = cc (a .1) in absurd (omega arith))
+    (longest-right r s)
+
+-- a row's match is as long as it was found to be
+sized : (r : Regex) (f : Found) (t : List ℕ) (k : ℕ) → longest r t ≡ some k → match f (length (take k t)) ≡ match f k
+sized r f t k e = let h : k ≤ length t = longest-fits r t k e in ap (match f) (omega (arith, length-take k t))
+
+-- and where it is n bytes and then a class repeated, its text is known
+made :
+    (r : Regex) (f : List ℕ → Found) (p : ℕ → Bool) (n : ℕ) (t : List ℕ) (k : ℕ) → longest r t ≡ some k → k ≡ n + length (while p (drop n t))
+    → match (f (drop n (take k t))) (length (take k t)) ≡ match (f (while p (drop n t))) (n + length (while p (drop n t)))
+made r f p n t k e q = sized r _ t k e ∙ rw q (ap (λ (w : List ℕ). match (f w) (n + length (while p (drop n t)))) (drop-taken p n t))
+
+-- both choices of a test, each with what it knows of the test
+pub by-test : {A : Type 0} (P : A → Type 0) (b : Bool) {x y : A} → (b ≡ true → P x) → (b ≡ false → P y) → P (if b then x else y)
+unfolding if_then_else_
+by-test P true p q = p refl
+by-test P false p q = q refl
+
+if-yes : {A : Type 0} {b : Bool} (x y : A) → b ≡ true → (if b then x else y) ≡ x
+unfolding if_then_else_
+if-yes x y e = rw e
+
+if-no : {A : Type 0} {b : Bool} (x y : A) → b ≡ false → (if b then x else y) ≡ y
+unfolding if_then_else_
+if-no x y e = rw e
+
+-- what holds of the byte k holds of a byte that is k
+is-so : (k : ℕ) (q : ℕ → Bool) {b : Bool} → q k ≡ b → (x : ℕ) → eqb x k ≡ true → q x ≡ b
+is-so k q h x e = rw (eqb-true x k e) h
+
+minus-plain : wordy 45 ≡ false
+unfolding digit letter wordy
+minus-plain = refl
+
+minus-hex : hexDigit 45 ≡ false
+unfolding digit
+minus-hex = refl
+
+hash-plain : wordy 35 ≡ false
+unfolding digit letter wordy
+hash-plain = refl
+
+-- after the hashes: -?\w*  \w*
+abbrev minus-word : Regex
+minus-word = (empty or byte (is "-")) then star (byte wordy)
+
+abbrev just-word : Regex
+just-word = star (byte wordy)
+
+hash-ends-minus : (x : ℕ) → is "#" x ≡ true → after x minus-word ≡ fail
+unfolding matching digit letter wordy
+hash-ends-minus x e = rw (eqb-true x 35 e)
+
+hash-ends-word : (x : ℕ) → is "#" x ≡ true → after x just-word ≡ fail
+hash-ends-word x e = star-no wordy x (is-so 35 wordy hash-plain x e)
+
+null-minus : null minus-word ≡ true
+unfolding null
+null-minus = refl
+
+null-word : null just-word ≡ true
+unfolding null
+null-word = refl
+
+module _ (c : ℕ) (s : List ℕ) (low : c < 128) where
+  digit-case : digit c ≡ true → tokenBy (c ∷ s) ≡ numberAfter 0 dec (c ∷ s)
+  unfolding rowsAt numberAfter
+  digit-case e =
+      let l : longest (byte digit then star (byte wordy)) (c ∷ s) ≡ some (1 + length (while wordy s)) = class-star digit wordy c s e in
+      starts digit (1 ∷ []) digit-starts c low e s
+      ∙ row-more _ _ 0 _ (c ∷ s) l (omega arith)
+      ∙ rows-end _ _ _
+      ∙ made _ (read dec) wordy 0 (c ∷ s) _ l (rw (yes-cons wordy c s (digit-wordy c e)) (omega arith))
+
+  abbrev word-size : ℕ
+  word-size = 1 + length (while wordy s)
+
+  word-made : letter c ≡ true → match (token (word (map upper (take word-size (c ∷ s))))) (length (take word-size (c ∷ s))) ≡ wordAt (c ∷ s)
+  unfolding wordAt
+  word-made e =
+      made _ (λ t. token (word (map upper t))) wordy 0 (c ∷ s) _ (class-star letter wordy c s e) (rw (yes-cons wordy c s (letter-wordy c e)) (omega arith))
+      ∙ ap (match _) (zero-add _)
+
+  abbrev From : List ℕ → Match → Type 0
+  From ks m = best (rowsAt ks) 0 (match (bad 10) 1) (c ∷ s) ≡ m
+
+  x-rows : (is "X" c || is "x" c) ≡ true → letter c ≡ true → From (3 ∷ 8 ∷ 10 ∷ []) (afterX c s)
+  unfolding rowsAt afterX numberAfter
+  x-rows x l =
+      let hex-row = class2-star (λ k. is "X" k || is "x" k) hexDigit wordy c s x in
+      let minus-row = class2-star (λ k. is "X" k || is "x" k) (is "-") wordy c s x in
+      let word-row = class-star letter wordy c s l in
+      by-test (From (3 ∷ 8 ∷ 10 ∷ [])) (begins (is "-") s)
+      (λ m.
+        row-none _ _ 0 _ _ (hex-row ∙ if-no _ _ (begins-apart (is "-") hexDigit (is-so 45 hexDigit minus-hex) s m))
+        ∙ row-more _ _ 0 _ _ (minus-row ∙ if-yes _ _ m) (omega arith)
+        ∙ row-less _ _ _ _ _ word-row (rw (while-none wordy s (begins-apart (is "-") wordy (is-so 45 wordy minus-plain) s m)) (omega arith))
+        ∙ rows-end _ _ _
+        ∙ made _ (read hexNeg) wordy 2 (c ∷ s) _ (minus-row ∙ if-yes _ _ m) refl)
+      (λ m.
+        by-test (From (3 ∷ 8 ∷ 10 ∷ [])) (begins (λ k. ltb (value k) 16) s)
+        (λ h.
+          let b : begins hexDigit s ≡ true = begins-same hexDigit (λ k. ltb (value k) 16) hex-value s ∙ h in
+          let n = while-one wordy s (begins-within hexDigit wordy hex-wordy s b) in
+          row-more _ _ 0 _ _ (hex-row ∙ if-yes _ _ b) (omega arith)
+          ∙ row-none _ _ _ _ _ (minus-row ∙ if-no _ _ m)
+          ∙ row-less _ _ _ _ _ word-row (omega (arith, n))
+          ∙ rows-end _ _ _
+          ∙ made _ (read hex) wordy 1 (c ∷ s) _ (hex-row ∙ if-yes _ _ b) (omega (arith, n)))
+        (λ h.
+          row-none _ _ 0 _ _ (hex-row ∙ if-no _ _ (begins-same hexDigit (λ k. ltb (value k) 16) hex-value s ∙ h))
+          ∙ row-none _ _ _ _ _ (minus-row ∙ if-no _ _ m)
+          ∙ row-more _ _ _ _ _ word-row (omega arith)
+          ∙ rows-end _ _ _
+          ∙ word-made l))
+
+  abbrev hashes : ℕ
+  hashes = length (while (is "#") s)
+
+  plain-hash : begins (is "#") s ≡ true → while wordy s ≡ []
+  plain-hash b = while-none wordy s (begins-apart (is "#") wordy (is-so 35 wordy hash-plain) s b)
+
+  plain-minus : begins (is "-") s ≡ true → while wordy s ≡ []
+  plain-minus b = while-none wordy s (begins-apart (is "-") wordy (is-so 45 wordy minus-plain) s b)
+
+  minus-rows : is "-" c ≡ true → From (4 ∷ 6 ∷ []) (afterMinus s)
+  unfolding rowsAt afterMinus numberAfter wrongAfter
+  minus-rows e =
+      let number-row = class-star (is "-") wordy c s e in
+      let hash-row = class-plus (is "-") (is "#") just-word null-word hash-ends-word c s e in
+      by-test (From (4 ∷ 6 ∷ [])) (eqb hashes 0)
+      (λ h.
+        row-more _ _ 0 _ _ number-row (omega arith)
+        ∙ row-none _ _ _ _ _ (hash-row ∙ if-no _ _ (begins-count (is "#") s ∙ ap not h))
+        ∙ rows-end _ _ _
+        ∙ made _ (read decNeg) wordy 1 (c ∷ s) _ number-row refl)
+      (λ h. wrong (begins-count (is "#") s ∙ ap not h) (hash-row ∙ if-yes _ _ (begins-count (is "#") s ∙ ap not h) ∙ star-long wordy none (1 + hashes) (drop hashes s)))
+    where
+      wrong :
+          begins (is "#") s ≡ true → longest (c1 "-" then some1 (c1 "#") then just-word) (c ∷ s) ≡ some (1 + hashes + length (while wordy (drop hashes s)))
+          → From (4 ∷ 6 ∷ []) (match (bad 4) (hashes + 1 + length (while wordy (drop hashes s))))
+      wrong b l =
+          row-more _ _ 0 _ _ (class-star (is "-") wordy c s e) (omega arith)
+          ∙ row-more _ _ _ _ _ l (rw (plain-hash b) (omega (arith, while-one (is "#") s b)))
+          ∙ rows-end _ _ _
+          ∙ sized _ _ _ _ l
+          ∙ ap (match (bad 4)) (omega arith)
+
+  hash-rows : is "#" c ≡ true → From (2 ∷ 5 ∷ 7 ∷ []) (afterHash s)
+  unfolding rowsAt afterHash numberAfter wrongAfter
+  hash-rows e =
+      by-test (From (2 ∷ 5 ∷ 7 ∷ [])) (begins (is "-") s)
+      (λ m.
+        row-more _ _ 0 _ _ number-row (omega arith)
+        ∙ row-more _ _ _ _ _ (minus-row ∙ if-yes _ _ m) (rw (plain-minus m) (omega arith))
+        ∙ row-none _ _ _ _ _ (hash-row ∙ if-no _ _ (begins-apart (is "-") (is "#") (is-so 45 (is "#") refl) s m))
+        ∙ rows-end _ _ _
+        ∙ made _ (read decNeg) wordy 2 (c ∷ s) _ (minus-row ∙ if-yes _ _ m) refl)
+      (λ m.
+        by-test (From (2 ∷ 5 ∷ 7 ∷ [])) (eqb hashes 0)
+        (λ h.
+          row-more _ _ 0 _ _ number-row (omega arith)
+          ∙ row-none _ _ _ _ _ (minus-row ∙ if-no _ _ m)
+          ∙ row-none _ _ _ _ _ (hash-row ∙ if-no _ _ (begins-count (is "#") s ∙ ap not h))
+          ∙ rows-end _ _ _
+          ∙ made _ (read dec) wordy 1 (c ∷ s) _ number-row refl)
+        (λ h.
+          let b : begins (is "#") s ≡ true = begins-count (is "#") s ∙ ap not h in
+          by-test (From (2 ∷ 5 ∷ 7 ∷ [])) (begins (is "-") (drop hashes s))
+          (λ n. wrong m b _ (hash-row ∙ if-yes _ _ b ∙ rest ∙ if-yes _ _ n ∙ ap some with-minus) (omega (arith, while-one (is "#") s b)))
+          (λ n. wrong m b _ (hash-row ∙ if-yes _ _ b ∙ rest ∙ if-no _ _ n ∙ ap some (omega arith)) (omega (arith, while-one (is "#") s b)))))
+    where
+      number-row : longest (c1 "#" then maybe d then w*) (c ∷ s) ≡ some (1 + length (while wordy s))
+      number-row = class-maybe (is "#") digit wordy digit-wordy c s e
+
+      minus-row : longest (c1 "#" then c1 "-" then w*) (c ∷ s) ≡ (if begins (is "-") s then some (2 + length (while wordy (drop 1 s))) else none)
+      minus-row = class2-star (is "#") (is "-") wordy c s e
+
+      hash-row : longest (c1 "#" then some1 (c1 "#") then maybe (c1 "-") then w*) (c ∷ s) ≡ (if begins (is "#") s then longestFrom minus-word none (1 + hashes) (drop hashes s) else none)
+      hash-row = class-plus (is "#") (is "#") minus-word null-minus hash-ends-minus c s e
+
+      rest : longestFrom minus-word none (1 + hashes) (drop hashes s) ≡ (if begins (is "-") (drop hashes s) then some (1 + hashes + 1 + length (while wordy (drop 1 (drop hashes s)))) else some (1 + hashes + length (while wordy (drop hashes s))))
+      rest = maybe-apart (is "-") wordy (is-so 45 wordy minus-plain) none (1 + hashes) (drop hashes s)
+
+      with-minus : 1 + hashes + 1 + length (while wordy (drop 1 (drop hashes s))) ≡ hashes + 2 + length (while wordy (drop (hashes + 1) s))
+      with-minus = rw (drop-drop 1 hashes s) (omega arith)
+
+      wrong : begins (is "-") s ≡ false → begins (is "#") s ≡ true → (k : ℕ) → longest (c1 "#" then some1 (c1 "#") then maybe (c1 "-") then w*) (c ∷ s) ≡ some k → 1 < k → From (2 ∷ 5 ∷ 7 ∷ []) (match (bad 4) k)
+      wrong m b k l more =
+          row-more _ _ 0 _ _ number-row (omega arith)
+          ∙ row-none _ _ _ _ _ (minus-row ∙ if-no _ _ m)
+          ∙ row-more _ _ _ _ _ l (rw (plain-hash b) more)
+          ∙ rows-end _ _ _
+          ∙ sized _ _ _ _ l
