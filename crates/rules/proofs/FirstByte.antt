@@ -7,18 +7,18 @@ use mathlib.Core.List.{List, [], _∷_, map}
 use mathlib.Core.Option.{Option, none, some}
 use native.Mathlib.Nat.{zero-add}
 use native.Mathlib.Omega.{arith}
-use borrow.Author.Tests.{eqb-true, eqb-false, not-false}
+use borrow.Author.Tests.{eqb-true, not-true, not-false}
 use lib.Dec.{T, eqb, ltb}
 use lib.ListN.{length, take, drop, length-take}
 use lib.Seq.{drop-drop}
 use Rattle.rules.specs.Base.{if_then_else_, is, within}
 use Rattle.rules.specs.Regex.{Regex, fail, empty, byte, _then_, _or_, star, null, after, longest, longestFrom, matching}
 use Rattle.rules.specs.Patterns.{c1, or1, d, w*, maybe, some1, best, tokenBy}
-use Rattle.rules.specs.Tokens.{Match, match, Found, token, word, bad, while, begins, wordy, digit, letter, upper, value, read, dec, numberAfter, wrongAfter, wordAt, afterX, afterMinus, afterHash, decNeg, hex, hexNeg, lexing}
+use Rattle.rules.specs.Tokens.{Match, match, Found, token, word, bad, while, begins, wordy, digit, letter, upper, value, read, dec, numberAfter, wrongAfter, wordAt, afterX, afterMinus, afterHash, afterR, reg, blank, mark, space, directive, directiveAfter, afterQuote, decNeg, hex, hexNeg, lexing}
 use Rattle.rules.proofs.Regex.{longest-right}
-use Rattle.rules.proofs.Shapes.{star-no, star-long, class-star, class2-star, class-plus, class-one, class-maybe, maybe-apart}
+use Rattle.rules.proofs.Shapes.{star-no, star-long, class-star, class2-star, class-plus, class-one, one-of, class-maybe, maybe-apart}
 use Rattle.rules.proofs.Best.{row-none, row-more, row-less, rows-end}
-use Rattle.rules.proofs.Starts.{rowsAt, starts, digit-starts, hexDigit, hex-value, hex-wordy}
+use Rattle.rules.proofs.Starts.{rowsAt, hexDigit, hex-value, hex-wordy}
 use Rattle.rules.proofs.Heads.{drop-taken, begins-apart, begins-within, begins-same, while-same, while-longer, while-none, while-one, begins-count}
 use Rattle.rules.proofs.Sizes.{digit-wordy, letter-wordy}
 use Rattle.rules.proofs.While.{yes-cons}
@@ -46,13 +46,21 @@ unfolding if_then_else_
 by-test P true p q = p refl
 by-test P false p q = q refl
 
-if-yes : {A : Type 0} {b : Bool} (x y : A) → b ≡ true → (if b then x else y) ≡ x
+pub if-yes : {A : Type 0} {b : Bool} (x y : A) → b ≡ true → (if b then x else y) ≡ x
 unfolding if_then_else_
 if-yes x y e = rw e
 
-if-no : {A : Type 0} {b : Bool} (x y : A) → b ≡ false → (if b then x else y) ≡ y
+pub if-no : {A : Type 0} {b : Bool} (x y : A) → b ≡ false → (if b then x else y) ≡ y
 unfolding if_then_else_
 if-no x y e = rw e
+
+pub and-left : (a b : Bool) → (a && b) ≡ true → a ≡ true
+and-left true b e = refl
+and-left false b e = e
+
+pub and-right : (a b : Bool) → (a && b) ≡ true → b ≡ true
+and-right true b e = e
+and-right false b e = let z : _≡_ {A = ℕ} 0 1 = cc in absurd (omega arith)
 
 -- what holds of the byte k holds of a byte that is k
 is-so : (k : ℕ) (q : ℕ → Bool) {b : Bool} → q k ≡ b → (x : ℕ) → eqb x k ≡ true → q x ≡ b
@@ -92,15 +100,26 @@ null-word : null just-word ≡ true
 unfolding null
 null-word = refl
 
-module _ (c : ℕ) (s : List ℕ) (low : c < 128) where
-  digit-case : digit c ≡ true → tokenBy (c ∷ s) ≡ numberAfter 0 dec (c ∷ s)
+-- \r?\n
+newline-alone : (s : List ℕ) → longest (maybe (c1 "\r") then c1 "\n") (10 ∷ s) ≡ some 1
+unfolding matching
+newline-alone [] = refl
+newline-alone (x ∷ s) = refl
+
+newline-after : (s : List ℕ) → longest (maybe (c1 "\r") then c1 "\n") (13 ∷ s) ≡ (if begins (is "\n") s then some 2 else none)
+unfolding matching
+newline-after s = one-of (is "\n") 1 s
+
+module _ (c : ℕ) (s : List ℕ) where
+  -- m is the best of these rows
+  abbrev pub From : List ℕ → Match → Type 0
+  From ks m = best (rowsAt ks) 0 (match (bad 10) 1) (c ∷ s) ≡ m
+
+  pub digit-rows : digit c ≡ true → From (1 ∷ []) (numberAfter 0 dec (c ∷ s))
   unfolding rowsAt numberAfter
-  digit-case e =
-      let l : longest (byte digit then star (byte wordy)) (c ∷ s) ≡ some (1 + length (while wordy s)) = class-star digit wordy c s e in
-      starts digit (1 ∷ []) digit-starts c low e s
-      ∙ row-more _ _ 0 _ (c ∷ s) l (omega arith)
-      ∙ rows-end _ _ _
-      ∙ made _ (read dec) wordy 0 (c ∷ s) _ l (rw (yes-cons wordy c s (digit-wordy c e)) (omega arith))
+  digit-rows e =
+      let l = class-star digit wordy c s e in
+      row-more _ _ 0 _ _ l (omega arith) ∙ rows-end _ _ _ ∙ made _ (read dec) wordy 0 (c ∷ s) _ l (rw (yes-cons wordy c s (digit-wordy c e)) (omega arith))
 
   abbrev word-size : ℕ
   word-size = 1 + length (while wordy s)
@@ -111,10 +130,7 @@ module _ (c : ℕ) (s : List ℕ) (low : c < 128) where
       made _ (λ t. token (word (map upper t))) wordy 0 (c ∷ s) _ (class-star letter wordy c s e) (rw (yes-cons wordy c s (letter-wordy c e)) (omega arith))
       ∙ ap (match _) (zero-add _)
 
-  abbrev From : List ℕ → Match → Type 0
-  From ks m = best (rowsAt ks) 0 (match (bad 10) 1) (c ∷ s) ≡ m
-
-  x-rows : (is "X" c || is "x" c) ≡ true → letter c ≡ true → From (3 ∷ 8 ∷ 10 ∷ []) (afterX c s)
+  pub x-rows : (is "X" c || is "x" c) ≡ true → letter c ≡ true → From (3 ∷ 8 ∷ 10 ∷ []) (afterX c s)
   unfolding rowsAt afterX numberAfter
   x-rows x l =
       let hex-row = class2-star (λ k. is "X" k || is "x" k) hexDigit wordy c s x in
@@ -153,7 +169,7 @@ module _ (c : ℕ) (s : List ℕ) (low : c < 128) where
   plain-minus : begins (is "-") s ≡ true → while wordy s ≡ []
   plain-minus b = while-none wordy s (begins-apart (is "-") wordy (is-so 45 wordy minus-plain) s b)
 
-  minus-rows : is "-" c ≡ true → From (4 ∷ 6 ∷ []) (afterMinus s)
+  pub minus-rows : is "-" c ≡ true → From (4 ∷ 6 ∷ []) (afterMinus s)
   unfolding rowsAt afterMinus numberAfter wrongAfter
   minus-rows e =
       let number-row = class-star (is "-") wordy c s e in
@@ -176,7 +192,7 @@ module _ (c : ℕ) (s : List ℕ) (low : c < 128) where
           ∙ sized _ _ _ _ l
           ∙ ap (match (bad 4)) (omega arith)
 
-  hash-rows : is "#" c ≡ true → From (2 ∷ 5 ∷ 7 ∷ []) (afterHash s)
+  pub hash-rows : is "#" c ≡ true → From (2 ∷ 5 ∷ 7 ∷ []) (afterHash s)
   unfolding rowsAt afterHash numberAfter wrongAfter
   hash-rows e =
       by-test (From (2 ∷ 5 ∷ 7 ∷ [])) (begins (is "-") s)
@@ -222,3 +238,86 @@ module _ (c : ℕ) (s : List ℕ) (low : c < 128) where
           ∙ row-more _ _ _ _ _ l (rw (plain-hash b) more)
           ∙ rows-end _ _ _
           ∙ sized _ _ _ _ l
+
+  pub r-rows : (is "R" c || is "r" c) ≡ true → letter c ≡ true → From (9 ∷ 10 ∷ []) (afterR c s)
+  unfolding rowsAt afterR numberAfter
+  r-rows r l = by-test (From (9 ∷ 10 ∷ [])) (begins digit s && not (begins wordy after-digits)) (λ b. alone (and-left _ _ b) (not-true _ (and-right (begins digit s) _ b))) (more (begins digit s) refl)
+    where
+      after-digits : List ℕ
+      after-digits = drop (length (while digit s)) s
+
+      word-row : longest (byte letter then w*) (c ∷ s) ≡ some word-size
+      word-row = class-star letter wordy c s l
+
+      digits-row : begins digit s ≡ true → longest (or1 "R" "r" then some1 d) (c ∷ s) ≡ some (1 + length (while digit s))
+      digits-row b = class2-star (λ k. is "R" k || is "r" k) digit digit c s r ∙ if-yes _ _ b ∙ ap some (omega (arith, while-one digit s b))
+
+      alone : begins digit s ≡ true → begins wordy (drop (length (while digit s)) s) ≡ false → From (9 ∷ 10 ∷ []) (numberAfter 1 reg s)
+      alone b n =
+          let w : while wordy s ≡ while digit s = while-same digit wordy digit-wordy s n in
+          row-more _ _ 0 _ _ (digits-row b) (omega arith)
+          ∙ row-less _ _ _ _ _ word-row (rw w (omega arith))
+          ∙ rows-end _ _ _
+          ∙ made _ (read reg) wordy 1 (c ∷ s) _ (digits-row b) (rw w)
+
+      more : (x : Bool) → begins digit s ≡ x → (x && not (begins wordy (drop (length (while digit s)) s))) ≡ false → From (9 ∷ 10 ∷ []) (wordAt (c ∷ s))
+      more true b n =
+          row-more _ _ 0 _ _ (digits-row b) (omega arith)
+          ∙ row-more _ _ _ _ _ word-row (omega (arith, while-longer digit wordy digit-wordy s (not-false _ n)))
+          ∙ rows-end _ _ _
+          ∙ word-made l
+      more false b n =
+          row-none _ _ 0 _ _ (class2-star (λ k. is "R" k || is "r" k) digit digit c s r ∙ if-no _ _ b)
+          ∙ row-more _ _ _ _ _ word-row (omega arith)
+          ∙ rows-end _ _ _
+          ∙ word-made l
+
+  pub letter-rows : letter c ≡ true → From (10 ∷ []) (wordAt (c ∷ s))
+  unfolding rowsAt
+  letter-rows l = row-more _ _ 0 _ _ (class-star letter wordy c s l) (omega arith) ∙ rows-end _ _ _ ∙ word-made l
+
+  pub point-rows : is "." c ≡ true → From (11 ∷ []) (directiveAfter s)
+  unfolding rowsAt directiveAfter
+  point-rows e =
+      let l = class-star (is ".") wordy c s e in
+      row-more _ _ 0 _ _ l (omega arith) ∙ rows-end _ _ _ ∙ made _ (λ t. token (directive (map upper t))) wordy 1 (c ∷ s) _ l refl
+
+  pub quote-rows : is "\"" c ≡ true → From (12 ∷ []) (afterQuote s)
+  unfolding rowsAt
+  quote-rows e = row-more _ _ 0 _ _ (class-one (is "\"") c s e) (omega arith) ∙ rows-end _ _ _
+
+  pub colon-rows : is ":" c ≡ true → From (13 ∷ []) (match (token (mark c)) 1)
+  unfolding rowsAt
+  colon-rows e = row-more _ _ 0 _ _ (class-one (is ":") c s e) (omega arith) ∙ rows-end _ _ _ ∙ ap (λ (k : ℕ). match (token (mark k)) 1) (sym (eqb-true c 58 e))
+
+  pub comma-rows : is "," c ≡ true → From (14 ∷ []) (match (token (mark c)) 1)
+  unfolding rowsAt
+  comma-rows e = row-more _ _ 0 _ _ (class-one (is ",") c s e) (omega arith) ∙ rows-end _ _ _ ∙ ap (λ (k : ℕ). match (token (mark k)) 1) (sym (eqb-true c 44 e))
+
+  pub comment-rows : is ";" c ≡ true → From (15 ∷ []) (match blank (1 + length (while (λ k. not (is "\n" k)) s)))
+  unfolding rowsAt
+  comment-rows e =
+      let l = class-star (is ";") (λ k. not (is "\n" k)) c s e in
+      row-more _ _ 0 _ _ l (omega arith) ∙ rows-end _ _ _ ∙ sized _ _ _ _ l
+
+  pub space-rows : space c ≡ true → From (0 ∷ []) (match blank (1 + length (while space s)))
+  unfolding rowsAt
+  space-rows e =
+      let l = class-star space space c s e in
+      row-more _ _ 0 _ _ l (omega arith) ∙ rows-end _ _ _ ∙ sized _ _ _ _ l
+
+  pub lf-rows : is "\n" c ≡ true → From (16 ∷ []) (match (token (mark c)) 1)
+  unfolding rowsAt
+  lf-rows e = rw (eqb-true c 10 e) (row-more _ _ 0 _ (10 ∷ s) (newline-alone s) (omega arith) ∙ rows-end _ _ _)
+
+  pub cr-rows : is "\r" c ≡ true → From (16 ∷ []) (if begins (is "\n") s then match (token (mark 10)) 2 else match (bad 10) 1)
+  unfolding rowsAt
+  cr-rows e =
+      rw (eqb-true c 13 e)
+      (by-test (λ m. best (rowsAt (16 ∷ [])) 0 (match (bad 10) 1) (13 ∷ s) ≡ m) (begins (is "\n") s)
+      (λ b. row-more _ _ 0 _ (13 ∷ s) (newline-after s ∙ if-yes _ _ b) (omega arith) ∙ rows-end _ _ _ ∙ sized _ _ (13 ∷ s) 2 (newline-after s ∙ if-yes _ _ b))
+      (λ b. row-none _ _ 0 _ (13 ∷ s) (newline-after s ∙ if-no _ _ b) ∙ rows-end _ _ _))
+
+  pub no-rows : From [] (match (bad 10) 1)
+  unfolding rowsAt
+  no-rows = rows-end _ _ _

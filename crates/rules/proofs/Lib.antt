@@ -10,3 +10,4 @@ pub mod Best
 pub mod Starts
 pub mod Heads
 pub mod FirstByte
+pub mod Reading

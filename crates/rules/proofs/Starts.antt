@@ -132,6 +132,33 @@ pub space-starts : Starts space (0 ∷ [])
 unfolding Starts
 space-starts = tt
 
+-- none of these
+abbrev pub other : ℕ → Bool
+other c =
+    not
+    (digit c || is "#" c || is "-" c || is "X" (upper c) || is "R" (upper c) || letter c || is "." c || is "\"" c || is ":" c || is "," c || is ";" c || is "\n" c || is "\r" c || space c)
+
+pub other-starts : Starts other []
+unfolding Starts
+other-starts = tt
+
+-- the letters that begin more than a word
+pub x-either : Inside (λ c. is "X" (upper c)) (λ c. is "X" c || is "x" c)
+unfolding Inside
+x-either = tt
+
+pub x-letter : Inside (λ c. is "X" (upper c)) letter
+unfolding Inside
+x-letter = tt
+
+pub r-either : Inside (λ c. is "R" (upper c)) (λ c. is "R" c || is "r" c)
+unfolding Inside
+r-either = tt
+
+pub r-letter : Inside (λ c. is "R" (upper c)) letter
+unfolding Inside
+r-letter = tt
+
 pub low-or-high : (c : ℕ) → (c < 128) ⊎ (128 ≤ c)
 low-or-high c = go (ltb c 128) refl
   where
