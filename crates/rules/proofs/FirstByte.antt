@@ -138,27 +138,27 @@ module _ (c : ℕ) (s : List ℕ) where
       let word-row = class-star letter wordy c s l in
       by-test (From (3 ∷ 8 ∷ 10 ∷ [])) (begins (is "-") s)
       (λ m.
-        row-none _ _ 0 _ _ (hex-row ∙ if-no _ _ (begins-apart (is "-") hexDigit (is-so 45 hexDigit minus-hex) s m))
-        ∙ row-more _ _ 0 _ _ (minus-row ∙ if-yes _ _ m) (omega arith)
-        ∙ row-less _ _ _ _ _ word-row (rw (while-none wordy s (begins-apart (is "-") wordy (is-so 45 wordy minus-plain) s m)) (omega arith))
-        ∙ rows-end _ _ _
-        ∙ made _ (read hexNeg) wordy 2 (c ∷ s) _ (minus-row ∙ if-yes _ _ m) refl)
+      row-none _ _ 0 _ _ (hex-row ∙ if-no _ _ (begins-apart (is "-") hexDigit (is-so 45 hexDigit minus-hex) s m))
+      ∙ row-more _ _ 0 _ _ (minus-row ∙ if-yes _ _ m) (omega arith)
+      ∙ row-less _ _ _ _ _ word-row (rw (while-none wordy s (begins-apart (is "-") wordy (is-so 45 wordy minus-plain) s m)) (omega arith))
+      ∙ rows-end _ _ _
+      ∙ made _ (read hexNeg) wordy 2 (c ∷ s) _ (minus-row ∙ if-yes _ _ m) refl)
       (λ m.
-        by-test (From (3 ∷ 8 ∷ 10 ∷ [])) (begins (λ k. ltb (value k) 16) s)
-        (λ h.
-          let b : begins hexDigit s ≡ true = begins-same hexDigit (λ k. ltb (value k) 16) hex-value s ∙ h in
-          let n = while-one wordy s (begins-within hexDigit wordy hex-wordy s b) in
-          row-more _ _ 0 _ _ (hex-row ∙ if-yes _ _ b) (omega arith)
-          ∙ row-none _ _ _ _ _ (minus-row ∙ if-no _ _ m)
-          ∙ row-less _ _ _ _ _ word-row (omega (arith, n))
-          ∙ rows-end _ _ _
-          ∙ made _ (read hex) wordy 1 (c ∷ s) _ (hex-row ∙ if-yes _ _ b) (omega (arith, n)))
-        (λ h.
-          row-none _ _ 0 _ _ (hex-row ∙ if-no _ _ (begins-same hexDigit (λ k. ltb (value k) 16) hex-value s ∙ h))
-          ∙ row-none _ _ _ _ _ (minus-row ∙ if-no _ _ m)
-          ∙ row-more _ _ _ _ _ word-row (omega arith)
-          ∙ rows-end _ _ _
-          ∙ word-made l))
+      by-test (From (3 ∷ 8 ∷ 10 ∷ [])) (begins (λ k. ltb (value k) 16) s)
+      (λ h.
+      let b : begins hexDigit s ≡ true = begins-same hexDigit (λ k. ltb (value k) 16) hex-value s ∙ h in
+      let n = while-one wordy s (begins-within hexDigit wordy hex-wordy s b) in
+      row-more _ _ 0 _ _ (hex-row ∙ if-yes _ _ b) (omega arith)
+      ∙ row-none _ _ _ _ _ (minus-row ∙ if-no _ _ m)
+      ∙ row-less _ _ _ _ _ word-row (omega (arith, n))
+      ∙ rows-end _ _ _
+      ∙ made _ (read hex) wordy 1 (c ∷ s) _ (hex-row ∙ if-yes _ _ b) (omega (arith, n)))
+      (λ h.
+      row-none _ _ 0 _ _ (hex-row ∙ if-no _ _ (begins-same hexDigit (λ k. ltb (value k) 16) hex-value s ∙ h))
+      ∙ row-none _ _ _ _ _ (minus-row ∙ if-no _ _ m)
+      ∙ row-more _ _ _ _ _ word-row (omega arith)
+      ∙ rows-end _ _ _
+      ∙ word-made l))
 
   abbrev hashes : ℕ
   hashes = length (while (is "#") s)
@@ -176,10 +176,10 @@ module _ (c : ℕ) (s : List ℕ) where
       let hash-row = class-plus (is "-") (is "#") just-word null-word hash-ends-word c s e in
       by-test (From (4 ∷ 6 ∷ [])) (eqb hashes 0)
       (λ h.
-        row-more _ _ 0 _ _ number-row (omega arith)
-        ∙ row-none _ _ _ _ _ (hash-row ∙ if-no _ _ (begins-count (is "#") s ∙ ap not h))
-        ∙ rows-end _ _ _
-        ∙ made _ (read decNeg) wordy 1 (c ∷ s) _ number-row refl)
+      row-more _ _ 0 _ _ number-row (omega arith)
+      ∙ row-none _ _ _ _ _ (hash-row ∙ if-no _ _ (begins-count (is "#") s ∙ ap not h))
+      ∙ rows-end _ _ _
+      ∙ made _ (read decNeg) wordy 1 (c ∷ s) _ number-row refl)
       (λ h. wrong (begins-count (is "#") s ∙ ap not h) (hash-row ∙ if-yes _ _ (begins-count (is "#") s ∙ ap not h) ∙ star-long wordy none (1 + hashes) (drop hashes s)))
     where
       wrong :
@@ -197,24 +197,24 @@ module _ (c : ℕ) (s : List ℕ) where
   hash-rows e =
       by-test (From (2 ∷ 5 ∷ 7 ∷ [])) (begins (is "-") s)
       (λ m.
-        row-more _ _ 0 _ _ number-row (omega arith)
-        ∙ row-more _ _ _ _ _ (minus-row ∙ if-yes _ _ m) (rw (plain-minus m) (omega arith))
-        ∙ row-none _ _ _ _ _ (hash-row ∙ if-no _ _ (begins-apart (is "-") (is "#") (is-so 45 (is "#") refl) s m))
-        ∙ rows-end _ _ _
-        ∙ made _ (read decNeg) wordy 2 (c ∷ s) _ (minus-row ∙ if-yes _ _ m) refl)
+      row-more _ _ 0 _ _ number-row (omega arith)
+      ∙ row-more _ _ _ _ _ (minus-row ∙ if-yes _ _ m) (rw (plain-minus m) (omega arith))
+      ∙ row-none _ _ _ _ _ (hash-row ∙ if-no _ _ (begins-apart (is "-") (is "#") (is-so 45 (is "#") refl) s m))
+      ∙ rows-end _ _ _
+      ∙ made _ (read decNeg) wordy 2 (c ∷ s) _ (minus-row ∙ if-yes _ _ m) refl)
       (λ m.
-        by-test (From (2 ∷ 5 ∷ 7 ∷ [])) (eqb hashes 0)
-        (λ h.
-          row-more _ _ 0 _ _ number-row (omega arith)
-          ∙ row-none _ _ _ _ _ (minus-row ∙ if-no _ _ m)
-          ∙ row-none _ _ _ _ _ (hash-row ∙ if-no _ _ (begins-count (is "#") s ∙ ap not h))
-          ∙ rows-end _ _ _
-          ∙ made _ (read dec) wordy 1 (c ∷ s) _ number-row refl)
-        (λ h.
-          let b : begins (is "#") s ≡ true = begins-count (is "#") s ∙ ap not h in
-          by-test (From (2 ∷ 5 ∷ 7 ∷ [])) (begins (is "-") (drop hashes s))
-          (λ n. wrong m b _ (hash-row ∙ if-yes _ _ b ∙ rest ∙ if-yes _ _ n ∙ ap some with-minus) (omega (arith, while-one (is "#") s b)))
-          (λ n. wrong m b _ (hash-row ∙ if-yes _ _ b ∙ rest ∙ if-no _ _ n ∙ ap some (omega arith)) (omega (arith, while-one (is "#") s b)))))
+      by-test (From (2 ∷ 5 ∷ 7 ∷ [])) (eqb hashes 0)
+      (λ h.
+      row-more _ _ 0 _ _ number-row (omega arith)
+      ∙ row-none _ _ _ _ _ (minus-row ∙ if-no _ _ m)
+      ∙ row-none _ _ _ _ _ (hash-row ∙ if-no _ _ (begins-count (is "#") s ∙ ap not h))
+      ∙ rows-end _ _ _
+      ∙ made _ (read dec) wordy 1 (c ∷ s) _ number-row refl)
+      (λ h.
+      let b : begins (is "#") s ≡ true = begins-count (is "#") s ∙ ap not h in
+      by-test (From (2 ∷ 5 ∷ 7 ∷ [])) (begins (is "-") (drop hashes s))
+      (λ n. wrong m b _ (hash-row ∙ if-yes _ _ b ∙ rest ∙ if-yes _ _ n ∙ ap some with-minus) (omega (arith, while-one (is "#") s b)))
+      (λ n. wrong m b _ (hash-row ∙ if-yes _ _ b ∙ rest ∙ if-no _ _ n ∙ ap some (omega arith)) (omega (arith, while-one (is "#") s b)))))
     where
       number-row : longest (c1 "#" then maybe d then w*) (c ∷ s) ≡ some (1 + length (while wordy s))
       number-row = class-maybe (is "#") digit wordy digit-wordy c s e
@@ -241,11 +241,8 @@ module _ (c : ℕ) (s : List ℕ) where
 
   pub r-rows : (is "R" c || is "r" c) ≡ true → letter c ≡ true → From (9 ∷ 10 ∷ []) (afterR c s)
   unfolding rowsAt afterR numberAfter
-  r-rows r l = by-test (From (9 ∷ 10 ∷ [])) (begins digit s && not (begins wordy after-digits)) (λ b. alone (and-left _ _ b) (not-true _ (and-right (begins digit s) _ b))) (more (begins digit s) refl)
+  r-rows r l = by-test (From (9 ∷ 10 ∷ [])) _ (λ b. alone (and-left _ _ b) (not-true _ (and-right (begins digit s) _ b))) (more (begins digit s) refl)
     where
-      after-digits : List ℕ
-      after-digits = drop (length (while digit s)) s
-
       word-row : longest (byte letter then w*) (c ∷ s) ≡ some word-size
       word-row = class-star letter wordy c s l
 

@@ -11,3 +11,4 @@ pub mod Starts
 pub mod Heads
 pub mod FirstByte
 pub mod Reading
+pub mod Longest

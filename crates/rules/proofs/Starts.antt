@@ -65,7 +65,7 @@ unfolding Starts tokenBy rowsAt
 starts p ks t c l e s =
     only-alive c s patterns 0 (match (bad 10) 1)
     ∙ ap (λ (bs : List Bool). best (masked bs patterns) 0 (match (bad 10) 1) (c ∷ s))
-      (sameBools-eq (alive c patterns) (marks 17 0 ks) (implies (p c) _ e (inRun (λ x. not (p x) || sameBools (alive x patterns) (marks 17 0 ks)) 0 128 t c (omega arith) (omega arith))))
+    (sameBools-eq (alive c patterns) (marks 17 0 ks) (implies (p c) _ e (inRun (λ x. not (p x) || sameBools (alive x patterns) (marks 17 0 ks)) 0 128 t c (omega arith) (omega arith))))
 
 -- what is of the class p, of the bytes below 128, is of q
 unfoldable pub Inside : (ℕ → Bool) → (ℕ → Bool) → Type 0

@@ -39,8 +39,8 @@ pub record Row : Type 0 where
 abbrev row : Regex → (List ℕ → Found) → Row
 row r f = record { pattern = r; make = λ m s. match (f m) (length m) }
 
--- Above each row stands its line of lex.rs. At equal length the row that stands first wins: so document 01 has it, by which a number
--- (here a hex number) or a register goes before a word.
+-- Above each row stands its line of lex.rs. At equal length the row declared first wins, as a generator of lexers has it; document 01 says so
+-- of the rows that can tie: "At equal length a number or register goes before a word."
 unfoldable pub patterns : List Row
 patterns =
     -- #[logos(skip r"[ \t]+", error = LexErr)]
@@ -79,38 +79,44 @@ patterns =
     ∷ row (maybe (c1 "\r") then c1 "\n") (λ m. token (mark 10))
     ∷ []
 
+-- one of these rows
 infix 5 _∈_
 abbrev pub _∈_ : Row → List Row → Type 0
 r ∈ rs = List·Memᴰ r rs
 
--- s begins with t, and the row's pattern matches t
+-- the row's pattern matches t, and s is t and a rest
 pub record Begins (s : List ℕ) (r : Row) (t : List ℕ) : Type 0 where
   pub rest : List ℕ
   pub whole : s ≡ t ++ rest
   pub matches : Matches (r .pattern) t
 
--- m is what one of the rows makes of the longest match of any of them at the front of s; at equal length the first row's
+-- m is what a row of the table makes of its match at the front of s, and no row has a better one
 pub record Winner (rows : List Row) (s : List ℕ) (m : Match) : Type 0 where
+  -- the row, between those that are declared before it and after it
   pub earlier : List Row
   pub winner : Row
   pub later : List Row
   pub placed : rows ≡ earlier ++ (winner ∷ later)
+  -- its match, of one byte or more
   pub matched : List ℕ
   pub begins : Begins s winner matched
   pub nonempty : 1 ≤ length matched
   pub made : m ≡ winner .make matched (begins .rest)
+  -- "the longest match": no match of any row is longer
   pub longest : (r : Row) → r ∈ rows → (t : List ℕ) → Begins s r t → length t ≤ length matched
+  -- "at equal length": every match of an earlier row is shorter
   pub first : (r : Row) → r ∈ earlier → (t : List ℕ) → Begins s r t → length t < length matched
 
--- "The longest match of the patterns in lex.rs", m, at the front of s: a row wins, or none matches one byte or more, and one byte is refused with 10
+-- m is the longest match at the front of s: a row wins, or none matches a byte or more, and then one byte is refused with 10, InvalidSymbol
 pub data LongestOf (rows : List Row) (s : List ℕ) (m : Match) : Type 0 where
   wins : Winner rows s m → LongestOf rows s m
   none-matches : ((r : Row) → r ∈ rows → (t : List ℕ) → Begins s r t → length t ≡ 0) → m ≡ match (bad 10) 1 → LongestOf rows s m
 
+-- "The longest match of the patterns in lex.rs"
 abbrev pub LongestMatch : List ℕ → Match → Type 0
 LongestMatch = LongestOf patterns
 
--- the same computed: the longest match, the first of the longest; none: one byte, refused with 10
+-- the same computed, row by row: n bytes are the most so far, and m is what they make
 unfoldable pub best : List Row → ℕ → Match → List ℕ → Match
 best [] n m s = m
 best (r ∷ rs) n m s = elim (longest (r .pattern) s) [
@@ -121,7 +127,7 @@ best (r ∷ rs) n m s = elim (longest (r .pattern) s) [
 unfoldable pub tokenBy : List ℕ → Match
 tokenBy s = best patterns 0 (match (bad 10) 1) s
 
--- the tokens of a source, as `tokens` has them, with each match by the table
+-- the tokens of a source as `tokens` reads them, with each match by the table
 unfoldable pub tokensByFrom : ℕ → ℕ → List ℕ → Outcome (List Token)
 tokensByFrom k i [] = ok (tokenIn (mark 0) (span i i) ∷ [])
 tokensByFrom (suc k) i (c ∷ s) = tokensByFrom k (i + 1) s
