@@ -4,8 +4,13 @@ pub mod While
 pub mod Lexing
 pub mod Regex
 pub mod Digits
-pub mod Bridge
 pub mod Sizes
+pub mod Shapes
+pub mod Best
+pub mod Starts
+pub mod Heads
+pub mod FirstByte
+pub mod Reading
 pub mod Longest
 pub mod Tables
 pub mod Rows
