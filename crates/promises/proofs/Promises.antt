@@ -2,17 +2,29 @@
 -- Assumes nothing.
 use Prim.Native.Nat.{ℕ, _^_, _<_}
 use mathlib.Core.Bool.{true}
+use mathlib.Core.List.{List, _∷_}
 use mathlib.Core.Option.{some}
 use mathlib.Core.Path.{_≡_}
+use Rattle.rules.specs.Tokens.{Match, tokenAt}
+use Rattle.rules.specs.Patterns.{patterns, LongestMatch}
 use Rattle.rules.specs.Examples.{EveryRow}
 use Rattle.rules.specs.Words.{signed, fits, field, extend, Instr, word, disassemble, Shown}
 use Rattle.rules.specs.Objects.{Object, countsOf, Good}
 use Rattle.rules.specs.Buffers.{Buffers, view, layout}
 use Rattle.rules.specs.Examples as Examples
+use Rattle.rules.proofs.Longest as Longest
 use Rattle.rules.proofs.Fields as Fields
 use Rattle.rules.proofs.Fields.{Width}
 use Rattle.rules.proofs.Disassembly as Disassembly
 use Rattle.rules.proofs.Laid as Laid
+
+-- TOKENS. Each token is the longest match of the patterns of lex.rs at its place, at equal length of the pattern declared first:
+-- a number or register before a word. It is so of every first byte and every rest, and there is one longest match only.
+pub longest-match : (c : ℕ) (s : List ℕ) → LongestMatch (c ∷ s) (tokenAt c s)
+longest-match = Longest.longest-match
+
+pub one-longest-match : (s : List ℕ) {m n : Match} → LongestMatch s m → LongestMatch s n → m ≡ n
+one-longest-match s h k = Longest.one-longest patterns s h k
 
 -- MARKED EXAMPLES. P1 to P10: each row of the table gives its answer.
 pub marked-examples : EveryRow
