@@ -1,4 +1,5 @@
--- Section "Statements" of document 01: from tokens to statements, with refusals 13 to 16. Assumes nothing.
+-- Section "Statements" of document 01: from tokens to statements, with refusals 13 to 16.
+-- Comments and blank lines count for nothing: comments give no token, and newlines before a statement are passed over. Assumes nothing.
 use Prim.Native.Nat.{ℕ, zero, suc, _+_, _-_, _*_, _%_}
 use mathlib.Core.Bool.{Bool, true, false, _&&_, _||_, not}
 use mathlib.Core.List.{List, [], _∷_, _++_}
@@ -6,6 +7,7 @@ use mathlib.Core.Option.{Option, none, some}
 use lib.ListN.{length, drop, getD}
 use lib.Dec.{eqb, leb, ltb}
 use Rattle.rules.specs.Base.{if_then_else_, Outcome, ok, refused, _>>=_, refuse, Span, span, nowhere, bytes, same}
+use Rattle.rules.specs.Capacities.{nameRoom}
 use Rattle.rules.specs.Tokens.{Num, plus, minus, Kind, Token, tokenIn, number, register, mark, word, directive, text}
 use Rattle.rules.specs.Words.{Range, signed, Field, reg, regOrImm, num, near, name, string, Op, Row, instructions, directives, find}
 
@@ -14,7 +16,7 @@ pub record Name : Type 0 where
   pub text : List ℕ
   pub place : Span
 
--- a label as an operand, and the field that it goes to
+-- a label operand, and the field that it goes to
 pub record Target : Type 0 where
   pub field : Range
   pub name : Name
@@ -80,7 +82,7 @@ asText (mark c) = none
 asText (word t) = none
 asText (directive t) = none
 
--- a number's bits in a field, or 15 outside the field's range
+-- A number is its whole number: each field has its range (`Words`, FIELDS), outside it 15. Negatives are kept modulo the field.
 unfoldable pub inRange : Range → Num → Bool
 inRange r (plus n) = leb n (r .high)
 inRange r (minus n) = leb n (r .low)
@@ -92,7 +94,7 @@ reduced r (minus n) = (r .modulus - n) % r .modulus
 unfoldable pub fit : Range → Num → Span → Outcome ℕ
 fit r n p = if inRange r n then ok (reduced r n) else refuse 15 p
 
--- a word that is not reserved is a label; 16 where it is longer than 64 bytes
+-- a word that is not reserved is a label token; above 64 bytes it is 16
 unfoldable pub asLabel : Kind → Option (List ℕ)
 asLabel k = elim (asWord k) [
   | none ↦ none
@@ -100,13 +102,15 @@ asLabel k = elim (asWord k) [
 ]
 
 unfoldable pub named : List ℕ → Span → Outcome Name
-named t p = if leb (length t) 64 then ok (record { text = t; place = p }) else refuse 16 p
+named t p = if leb (length t) nameRoom then ok (record { text = t; place = p }) else refuse 16 p
 
--- where the token is of no kind that the field takes, refusal `other`, 13 or 14
+-- Where an operand is due and another kind of token or none stands there: 14, which goes before 15 and 16 at one token.
+-- `other` is 14, or 13 after NOP: "NOP's operand may be left out and is then 0; a wrong token there is 13."
 unfoldable pub need : {A B : Type 0} → Option A → ℕ → Span → (A → Outcome B) → Outcome B
 need none other p f = refuse other p
 need (some a) other p f = f a
 
+-- Operands are those of `AsmInstr` and `Directive`; where these have a `PCOffset`, a number or a label.
 unfoldable pub operand : Field → ℕ → Token → Outcome Piece
 operand (reg m) other t = need (asRegister (t .kind)) other (t .place) λ r. ok (bits (r * m))
 operand (num r) other t = need (asNumber (t .kind)) other (t .place) λ n. do
@@ -140,7 +144,7 @@ first (t ∷ ts) = t
 unfoldable pub ends : Kind → Bool
 ends k = isMark 10 k || isMark 0 k
 
--- between operands a comma is due, after the last one the statement's end; else 13
+-- comma-separated operands, then newline or end; every other misplaced token is 13
 unfoldable pub after : List Field → List Token → Outcome (List Token)
 after [] ts = if ends (first ts .kind) then ok ts else refuse 13 (first ts .place)
 after (f ∷ fs) ts = if isMark 44 (first ts .kind) then ok (drop 1 ts) else refuse 13 (first ts .place)
@@ -153,7 +157,7 @@ operands (f ∷ fs) other ts = do
   ps ← operands fs other rest
   ok (p ∷ ps)
 
--- a statement whose row is known: its first token, its fields and the refusal of a token of another kind
+-- A statement whose row is known, its first token and fields. A statement's span runs from its instruction or directive to its last operand.
 unfoldable pub statement : List Name → Row → Token → List Field → ℕ → List Token → Outcome Stmt
 statement ls r t [] other ts = do
   rest ← after [] ts
@@ -163,7 +167,8 @@ statement ls r t (f ∷ fs) other ts = do
   let last = first (drop (2 * length fs) ts)
   ok (record { labels = ls; op = r .op; pieces = bits (r .base) ∷ ps; place = span (t .place .start) (last .place .stop) })
 
--- what the token at hand does: nothing, a label, a statement with so many tokens more, or the end
+-- What the token at hand does: nothing, it is a label, or it begins a statement with so many tokens more. Every other misplaced token,
+-- an unknown directive, and labels with nothing after them: 13. Directives in any case: the token's text is in upper case.
 pub data Step : Type 0 where
   pass : Step
   label : Name → Step
@@ -193,7 +198,8 @@ step ls t ts =
       ]
     ]
 
--- the statements from the token at hand, k of whose tokens are read already, with the labels ls before them
+-- A statement is any number of labels, each with an optional colon and any newlines after it, then one instruction or directive.
+-- These are the statements from the token at hand, k of whose tokens are read already, with the labels ls before them.
 unfoldable pub statementsFrom : ℕ → List Name → List Token → Outcome (List Stmt)
 statementsFrom k ls [] = ok []
 statementsFrom (suc k) ls (t ∷ ts) = statementsFrom k ls ts
