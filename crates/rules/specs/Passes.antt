@@ -5,13 +5,13 @@ use mathlib.Core.List.{List, [], _∷_, _++_, map}
 use mathlib.Core.Option.{Option, none, some}
 use lib.ListN.{length, replicate}
 use lib.Dec.{eqb, leb, ltb}
-use Rattle.rules.specs.Base.{if_then_else_, Outcome, ok, refused, _>>=_, _>>_, require, refuse, refuse2, Span, span, nowhere}
+use Rattle.rules.specs.Base.{if_then_else_, Outcome, ok, refused, _>>=_, _>>_, require, refuse, refuse2, Span, span, nowhere, has}
 use Rattle.rules.specs.Capacities.{blockRoom, labelRoom, relocRoom}
 use Rattle.rules.specs.Tokens.{lexed}
 use Rattle.rules.specs.Words.{Range, offset, fits, field, Op, instr, orig, fill, blkw, stringz, end, external}
 use Rattle.rules.specs.Statements as S
 use Rattle.rules.specs.Statements.{Target, Piece, bits, target, chars, Stmt, statements}
-use Rattle.rules.specs.Tables.{Table, natOrder, nameOrder, look, has, insert, newer, mapT}
+use Rattle.rules.specs.Tables.{Table, natOrder, nameOrder, look, insert, newer, mapT}
 use Rattle.rules.specs.Objects.{Cell, unset, word, Lab, outer, defined, addressOf, Name, Object, object}
 
 -- A STATEMENT'S PARTS
@@ -272,8 +272,8 @@ passTwo ss (s ∷ rest) t = do
 -- 41 is given exactly when the words of all blocks together exceed the lent words, `room`.
 unfoldable pub assemble : ℕ → List ℕ → Outcome Object
 assemble room source = do
-  ts ← lexed source
-  ss ← statements ts
+  lexed source
+  ss ← statements source
   o ← passOne ss (one none [] [] 0 0)
   require (leb (o .words) room) 41 nowhere
   t ← passTwo (o .symbols) ss (two none [])

@@ -6,9 +6,9 @@ use mathlib.Core.List.{List, [], _∷_, _++_}
 use mathlib.Core.Option.{Option, none, some}
 use lib.ListN.{length, drop, getD}
 use lib.Dec.{eqb, leb, ltb}
-use Rattle.rules.specs.Base.{if_then_else_, Outcome, ok, refused, _>>=_, refuse, Span, span, nowhere, bytes, same}
+use Rattle.rules.specs.Base.{if_then_else_, Outcome, ok, refused, _>>=_, refuse, _>>_, require, Span, span, has}
 use Rattle.rules.specs.Capacities.{nameRoom}
-use Rattle.rules.specs.Tokens.{Num, plus, minus, Kind, Token, tokenIn, number, register, mark, word, directive, text}
+use Rattle.rules.specs.Tokens.{Num, plus, minus, Kind, Token, tokenIn, number, register, mark, word, directive, text, nextToken}
 use Rattle.rules.specs.Words.{Range, signed, Field, reg, regOrImm, num, near, name, string, Op, Row, instructions, directives, find}
 
 -- a label's text, in upper case, and its place
@@ -135,87 +135,156 @@ operand (name r) other t = need (asLabel (t .kind)) other (t .place) λ w. do
   ok (target (record { field = r; name = l }))
 operand string other t = need (asText (t .kind)) other (t .place) λ s. ok (chars s)
 
--- the token at hand, and those after it
-abbrev pub first : List Token → Token
-first [] = tokenIn (mark 0) nowhere
-first (t ∷ ts) = t
-
 -- a newline or the end of the source
 unfoldable pub ends : Kind → Bool
 ends k = isMark 10 k || isMark 0 k
 
--- comma-separated operands, then newline or end; every other misplaced token is 13
-unfoldable pub after : List Field → List Token → Outcome (List Token)
-after [] ts = if ends (first ts .kind) then ok ts else refuse 13 (first ts .place)
-after (f ∷ fs) ts = if isMark 44 (first ts .kind) then ok (drop 1 ts) else refuse 13 (first ts .place)
+-- FROM A PLACE. Tokens are read one at a time, each from a place of the source: `nextToken`.
 
-unfoldable pub operands : List Field → ℕ → List Token → Outcome (List Piece)
-operands [] other ts = ok []
-operands (f ∷ fs) other ts = do
-  p ← operand f other (first ts)
-  rest ← after fs (drop 1 ts)
-  ps ← operands fs other rest
-  ok (p ∷ ps)
+-- the token at a place passes a test
+unfoldable pub tokenIs : (Kind → Bool) → List ℕ → ℕ → Bool
+tokenIs p s i = elim (nextToken s i) [ ok t ↦ p (t .kind) | refused r ↦ false ]
+
+-- the place after it
+unfoldable pub stopAt : List ℕ → ℕ → ℕ
+stopAt s i = elim (nextToken s i) [ ok t ↦ t .place .stop | refused r ↦ i ]
+
+-- going on by a step while a test holds, at most k times
+unfoldable pub walk : (ℕ → Bool) → (ℕ → ℕ) → ℕ → ℕ → ℕ
+walk p f zero i = i
+walk p f (suc k) i = elim (p i) [ true ↦ walk p f k (f i) | false ↦ i ]
+
+-- any newlines
+unfoldable pub pastLines : List ℕ → ℕ → ℕ
+pastLines s i = walk (tokenIs (isMark 10) s) (stopAt s) (length s - i) i
+
+-- an optional colon
+unfoldable pub pastColon : List ℕ → ℕ → ℕ
+pastColon s i = if tokenIs (isMark 58) s i then stopAt s i else i
+
+-- LABELS, each with an optional colon and any newlines after it
+
+-- the label token's text and place
+unfoldable pub asName : Kind → Span → Option Name
+asName k p = elim (asLabel k) [ none ↦ none | some t ↦ if leb (length t) nameRoom then some (record { text = t; place = p }) else none ]
+
+unfoldable pub nameAt : List ℕ → ℕ → Option Name
+nameAt s i = elim (nextToken s i) [ ok t ↦ asName (t .kind) (t .place) | refused r ↦ none ]
+
+-- after newlines a label
+unfoldable pub labelAt : List ℕ → ℕ → Bool
+labelAt s i = has (nameAt s (pastLines s i))
+
+unfoldable pub pastLabel : List ℕ → ℕ → ℕ
+pastLabel s i = pastColon s (stopAt s (pastLines s i))
+
+-- any number of labels: the names, and where they end
+unfoldable pub labelsFrom : ℕ → List ℕ → ℕ → List Name
+labelsFrom zero s i = []
+labelsFrom (suc k) s i = elim (nameAt s (pastLines s i)) [ none ↦ [] | some n ↦ n ∷ labelsFrom k s (pastLabel s i) ]
+
+unfoldable pub labelsAt : List ℕ → ℕ → List Name
+labelsAt s i = labelsFrom (length s - i) s i
+
+unfoldable pub pastLabels : List ℕ → ℕ → ℕ
+pastLabels s i = walk (labelAt s) (pastLabel s) (length s - i) i
+
+-- OPERANDS
+
+-- what operands give, and the place after them
+pub record Given : Type 0 where
+  pub pieces : List Piece
+  pub stop : ℕ
+
+abbrev pub given : List Piece → ℕ → Given
+given ps i = record { pieces = ps; stop = i }
+
+unfoldable pub operandAt : List ℕ → Field → ℕ → ℕ → Outcome Given
+operandAt s f other i = do
+  t ← nextToken s i
+  p ← operand f other t
+  ok (given (p ∷ []) (t .place .stop))
+
+-- comma-separated; every other misplaced token is 13
+unfoldable pub commaAt : List ℕ → ℕ → Outcome ℕ
+commaAt s i = do
+  t ← nextToken s i
+  require (isMark 44 (t .kind)) 13 (t .place)
+  ok (t .place .stop)
+
+unfoldable pub moreFrom : List ℕ → List Field → ℕ → ℕ → Outcome Given
+moreFrom s [] other i = ok (given [] i)
+moreFrom s (f ∷ fs) other i = do
+  j ← commaAt s i
+  g ← operandAt s f other j
+  h ← moreFrom s fs other (g .stop)
+  ok (given (g .pieces ++ h .pieces) (h .stop))
+
+unfoldable pub operandsFrom : List ℕ → List Field → ℕ → ℕ → Outcome Given
+operandsFrom s [] other i = ok (given [] i)
+operandsFrom s (f ∷ fs) other i = do
+  g ← operandAt s f other i
+  h ← moreFrom s fs other (g .stop)
+  ok (given (g .pieces ++ h .pieces) (h .stop))
+
+-- then newline or end
+unfoldable pub lineEnd : List ℕ → ℕ → Outcome ℕ
+lineEnd s i = do
+  t ← nextToken s i
+  require (ends (t .kind)) 13 (t .place)
+  ok (t .place .stop)
+
+-- A STATEMENT, and where the next one begins
+pub record Read : Type 0 where
+  pub stmt : Stmt
+  pub next : ℕ
 
 -- A statement whose row is known, its first token and fields. A statement's span runs from its instruction or directive to its last operand.
-unfoldable pub statement : List Name → Row → Token → List Field → ℕ → List Token → Outcome Stmt
-statement ls r t [] other ts = do
-  rest ← after [] ts
-  ok (record { labels = ls; op = r .op; pieces = bits (r .base) ∷ []; place = t .place })
-statement ls r t (f ∷ fs) other ts = do
-  ps ← operands (f ∷ fs) other ts
-  let last = first (drop (2 * length fs) ts)
-  ok (record { labels = ls; op = r .op; pieces = bits (r .base) ∷ ps; place = span (t .place .start) (last .place .stop) })
+unfoldable pub rowRead : List ℕ → List Name → Row → Token → List Field → ℕ → Outcome (Option Read)
+rowRead s ls r t fs other = do
+  g ← operandsFrom s fs other (t .place .stop)
+  n ← lineEnd s (g .stop)
+  ok (some (record { stmt = record { labels = ls; op = r .op; pieces = bits (r .base) ∷ g .pieces; place = span (t .place .start) (g .stop) }; next = n }))
 
--- What the token at hand does: nothing, it is a label, or it begins a statement with so many tokens more. Every other misplaced token,
--- an unknown directive, and labels with nothing after them: 13. Directives in any case: the token's text is in upper case.
-pub data Step : Type 0 where
-  pass : Step
-  label : Name → Step
-  made : Stmt → ℕ → Step
+-- NOP's operand may be left out and is then 0; a wrong token there is 13.
+unfoldable pub instrRead : List ℕ → List Name → Row → Token → Outcome (Option Read)
+instrRead s ls r t =
+    if eqb (r .base) 0 then rowRead s ls r t (if tokenIs ends s (t .place .stop) then [] else r .fields) 13
+    else rowRead s ls r t (r .fields) 14
 
-unfoldable pub step : List Name → Token → List Token → Outcome Step
-step ls t ts =
-    elim (asDirective (t .kind)) [
-      | some d ↦ need (find d directives) 13 (t .place) (λ r. do
-        s ← statement ls r t (r .fields) 14 ts
-        ok (made s (2 * length (r .fields) - 1)))
-      | none ↦ elim (asWord (t .kind)) [
-        | some w ↦ elim (find w instructions) [
-          | some r ↦ do
-            let nop = eqb (r .base) 0
-            let fs = if nop && ends (first ts .kind) then [] else r .fields
-            s ← statement ls r t fs (if nop then 13 else 14) ts
-            ok (made s (2 * length fs - 1))
-          | none ↦ do
-            l ← named w (t .place)
-            ok (label l)
-        ]
-        | none ↦
-            if isMark 10 (t .kind) then ok pass
-            else if isMark 0 (t .kind) && eqb (length ls) 0 then ok pass
-            else refuse 13 (t .place)
-      ]
-    ]
+-- Every other misplaced token, an unknown directive, and labels with nothing after them: 13. Directives in any case: the token's text is in upper case.
+-- A label here is longer than 64 bytes: 16.
+unfoldable pub tokenRead : List ℕ → List Name → Token → Outcome (Option Read)
+tokenRead s ls t = elim (asDirective (t .kind)) [
+  | some d ↦ need (find d directives) 13 (t .place) (λ r. rowRead s ls r t (r .fields) 14)
+  | none ↦ elim (asWord (t .kind)) [
+    | some w ↦ elim (find w instructions) [ some r ↦ instrRead s ls r t | none ↦ refuse 16 (t .place) ]
+    | none ↦ if isMark 0 (t .kind) && eqb (length ls) 0 then ok none else refuse 13 (t .place)
+  ]
+]
 
 -- A statement is any number of labels, each with an optional colon and any newlines after it, then one instruction or directive.
--- These are the statements from the token at hand, k of whose tokens are read already, with the labels ls before them.
-unfoldable pub statementsFrom : ℕ → List Name → List Token → Outcome (List Stmt)
-statementsFrom k ls [] = ok []
-statementsFrom (suc k) ls (t ∷ ts) = statementsFrom k ls ts
-statementsFrom zero ls (t ∷ ts) = do
-  m ← step ls t ts
+-- `nextStatement` reads the one that begins at a place or after it; none at the end of the source.
+unfoldable pub nextStatement : List ℕ → ℕ → Outcome (Option Read)
+nextStatement s i = do
+  t ← nextToken s (pastLines s (pastLabels s i))
+  tokenRead s (labelsAt s i) t
+
+-- all of them, at most k
+unfoldable pub statementsFrom : ℕ → List ℕ → ℕ → Outcome (List Stmt)
+statementsFrom zero s i = ok []
+statementsFrom (suc k) s i = do
+  m ← nextStatement s i
   elim m [
-    | pass ↦ statementsFrom 0 ls ts
-    | label l ↦ statementsFrom (if isMark 58 (first ts .kind) then 1 else 0) (ls ++ l ∷ []) ts
-    | made s k ↦ do
-      ss ← statementsFrom k [] ts
-      ok (s ∷ ss)
+    | none ↦ ok []
+    | some r ↦ do
+      ss ← statementsFrom k s (r .next)
+      ok (r .stmt ∷ ss)
   ]
 
-unfoldable pub statements : List Token → Outcome (List Stmt)
-statements ts = statementsFrom 0 [] ts
+unfoldable pub statements : List ℕ → Outcome (List Stmt)
+statements s = statementsFrom (length s + 1) s 0
 
 unfoldable pub parsing : Unit {0}
-unfolding instructions directives find isMark asNumber asRegister asWord asDirective asText inRange reduced fit asLabel named need operand ends after operands statement step statementsFrom statements
+unfolding instructions directives find isMark asNumber asRegister asWord asDirective asText inRange reduced fit asLabel named need operand ends tokenIs stopAt walk pastLines pastColon asName nameAt labelAt pastLabel labelsFrom labelsAt pastLabels operandAt commaAt moreFrom operandsFrom lineEnd rowRead instrRead tokenRead nextStatement statementsFrom statements
 parsing = tt
