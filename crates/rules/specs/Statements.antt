@@ -27,10 +27,13 @@ pub data Piece : Type 0 where
   target : Target → Piece
   chars : List ℕ → Piece
 
+-- A statement: its labels; what it does; its word or number, as far as it is known; its label operand; its string; its span.
 pub record Stmt : Type 0 where
   pub labels : List Name
   pub op : Op
-  pub pieces : List Piece
+  pub bits : ℕ
+  pub target : Option Target
+  pub chars : List ℕ
   pub place : Span
 
 -- tokens by kind
@@ -191,19 +194,27 @@ pastLabels s i = walk (labelAt s) (pastLabel s) (length s - i) i
 
 -- OPERANDS
 
--- what operands give, and the place after them
+-- what operands give together, and the place after them
 pub record Given : Type 0 where
-  pub pieces : List Piece
+  pub bits : ℕ
+  pub target : Option Target
+  pub chars : List ℕ
   pub stop : ℕ
 
-abbrev pub given : List Piece → ℕ → Given
-given ps i = record { pieces = ps; stop = i }
+abbrev pub given : ℕ → Option Target → List ℕ → ℕ → Given
+given b t c i = record { bits = b; target = t; chars = c; stop = i }
 
-unfoldable pub operandAt : List ℕ → Field → ℕ → ℕ → Outcome Given
-operandAt s f other i = do
+-- one operand more: at most one is a label, and at most one a string
+unfoldable pub add : Given → Piece → ℕ → Given
+add g (bits n) i = given (g .bits + n) (g .target) (g .chars) i
+add g (target t) i = given (g .bits) (some t) (g .chars) i
+add g (chars s) i = given (g .bits) (g .target) s i
+
+unfoldable pub operandAt : List ℕ → Field → ℕ → Given → ℕ → Outcome Given
+operandAt s f other g i = do
   t ← nextToken s i
   p ← operand f other t
-  ok (given (p ∷ []) (t .place .stop))
+  ok (add g p (t .place .stop))
 
 -- comma-separated; every other misplaced token is 13
 unfoldable pub commaAt : List ℕ → ℕ → Outcome ℕ
@@ -212,20 +223,19 @@ commaAt s i = do
   require (isMark 44 (t .kind)) 13 (t .place)
   ok (t .place .stop)
 
-unfoldable pub moreFrom : List ℕ → List Field → ℕ → ℕ → Outcome Given
-moreFrom s [] other i = ok (given [] i)
-moreFrom s (f ∷ fs) other i = do
-  j ← commaAt s i
-  g ← operandAt s f other j
-  h ← moreFrom s fs other (g .stop)
-  ok (given (g .pieces ++ h .pieces) (h .stop))
+-- the operands after the first
+unfoldable pub moreFrom : List ℕ → List Field → ℕ → Given → Outcome Given
+moreFrom s [] other g = ok g
+moreFrom s (f ∷ fs) other g = do
+  j ← commaAt s (g .stop)
+  h ← operandAt s f other g j
+  moreFrom s fs other h
 
-unfoldable pub operandsFrom : List ℕ → List Field → ℕ → ℕ → Outcome Given
-operandsFrom s [] other i = ok (given [] i)
-operandsFrom s (f ∷ fs) other i = do
-  g ← operandAt s f other i
-  h ← moreFrom s fs other (g .stop)
-  ok (given (g .pieces ++ h .pieces) (h .stop))
+unfoldable pub operandsFrom : List ℕ → List Field → ℕ → Given → Outcome Given
+operandsFrom s [] other g = ok g
+operandsFrom s (f ∷ fs) other g = do
+  h ← operandAt s f other g (g .stop)
+  moreFrom s fs other h
 
 -- then newline or end
 unfoldable pub lineEnd : List ℕ → ℕ → Outcome ℕ
@@ -239,12 +249,18 @@ pub record Read : Type 0 where
   pub stmt : Stmt
   pub next : ℕ
 
+abbrev pub read : Stmt → ℕ → Read
+read s n = record { stmt = s; next = n }
+
+abbrev pub stmt : List Name → Op → Given → ℕ → Stmt
+stmt ls o g start = record { labels = ls; op = o; bits = g .bits; target = g .target; chars = g .chars; place = span start (g .stop) }
+
 -- A statement whose row is known, its first token and fields. A statement's span runs from its instruction or directive to its last operand.
 unfoldable pub rowRead : List ℕ → List Name → Row → Token → List Field → ℕ → Outcome (Option Read)
 rowRead s ls r t fs other = do
-  g ← operandsFrom s fs other (t .place .stop)
+  g ← operandsFrom s fs other (given (r .base) none [] (t .place .stop))
   n ← lineEnd s (g .stop)
-  ok (some (record { stmt = record { labels = ls; op = r .op; pieces = bits (r .base) ∷ g .pieces; place = span (t .place .start) (g .stop) }; next = n }))
+  ok (some (read (stmt ls (r .op) g (t .place .start)) n))
 
 -- NOP's operand may be left out and is then 0; a wrong token there is 13.
 unfoldable pub instrRead : List ℕ → List Name → Row → Token → Outcome (Option Read)
@@ -286,5 +302,5 @@ unfoldable pub statements : List ℕ → Outcome (List Stmt)
 statements s = statementsFrom (length s + 1) s 0
 
 unfoldable pub parsing : Unit {0}
-unfolding instructions directives find isMark asNumber asRegister asWord asDirective asText inRange reduced fit asLabel named need operand ends tokenIs stopAt walk pastLines pastColon asName nameAt labelAt pastLabel labelsFrom labelsAt pastLabels operandAt commaAt moreFrom operandsFrom lineEnd rowRead instrRead tokenRead nextStatement statementsFrom statements
+unfolding instructions directives find isMark asNumber asRegister asWord asDirective asText inRange reduced fit asLabel named need operand add ends tokenIs stopAt walk pastLines pastColon asName nameAt labelAt pastLabel labelsFrom labelsAt pastLabels operandAt commaAt moreFrom operandsFrom lineEnd rowRead instrRead tokenRead nextStatement statementsFrom statements
 parsing = tt
