@@ -7,3 +7,5 @@ pub mod Digits
 pub mod Bridge
 pub mod Sizes
 pub mod Longest
+pub mod Shown
+pub mod Next
