@@ -17,3 +17,5 @@ pub mod Rows
 pub mod Laid
 pub mod Fields
 pub mod Disassembly
+pub mod Shown
+pub mod Next
