@@ -19,3 +19,6 @@ pub mod Fields
 pub mod Disassembly
 pub mod Shown
 pub mod Next
+pub mod Walking
+pub mod Ahead
+pub mod Following

@@ -298,9 +298,13 @@ statementsFrom (suc k) s i = do
       ok (r .stmt ∷ ss)
   ]
 
+-- those from a place on, and all of a source: each takes a byte or more
+unfoldable pub statementsAt : List ℕ → ℕ → Outcome (List Stmt)
+statementsAt s i = statementsFrom (length s - i + 1) s i
+
 unfoldable pub statements : List ℕ → Outcome (List Stmt)
-statements s = statementsFrom (length s + 1) s 0
+statements s = statementsAt s 0
 
 unfoldable pub parsing : Unit {0}
-unfolding instructions directives find isMark asNumber asRegister asWord asDirective asText inRange reduced fit asLabel named need operand add ends tokenIs stopAt walk pastLines pastColon asName nameAt labelAt pastLabel labelsFrom labelsAt pastLabels operandAt commaAt moreFrom operandsFrom lineEnd rowRead instrRead tokenRead nextStatement statementsFrom statements
+unfolding instructions directives find isMark asNumber asRegister asWord asDirective asText inRange reduced fit asLabel named need operand add ends tokenIs stopAt walk pastLines pastColon asName nameAt labelAt pastLabel labelsFrom labelsAt pastLabels operandAt commaAt moreFrom operandsFrom lineEnd rowRead instrRead tokenRead nextStatement statementsFrom statementsAt statements
 parsing = tt
