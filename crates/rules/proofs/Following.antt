@@ -10,7 +10,7 @@ use lib.ListN.{length}
 use Rattle.rules.specs.Base.{if_then_else_, Outcome, ok, refused, Refusal, refuse, require, _>>=_, Span}
 use Rattle.rules.specs.Tokens.{Token, Kind, number, register, mark, word, directive, text, nextToken}
 use Rattle.rules.specs.Words.{Field, Row, find, instructions, directives}
-use Rattle.rules.specs.Statements.{Name, Stmt, Piece, bits, target, chars, Given, given, add, isMark, asWord, asDirective, need, operand, ends, tokenIs, pastLines, labelsAt, pastLabels, operandAt, commaAt, moreFrom, operandsFrom, lineEnd, Read, read, stmt, rowRead, instrRead, tokenRead, nextStatement, statementsFrom, statementsAt, statements}
+use Rattle.rules.specs.Statements.{Name, Stmt, Piece, bits, target, chars, Given, bare, add, isMark, asWord, asDirective, need, operand, ends, tokenIs, pastLines, labelsAt, pastLabels, operandAt, commaAt, moreFrom, operandsFrom, lineEnd, Read, read, stmt, rowRead, instrRead, tokenRead, nextStatement, statementsFrom, statementsAt, statements}
 use Rattle.rules.proofs.Ahead.{Ends, token-ends, lines-ge, labels-ge}
 
 -- a stage that gave something: what the stage before gave
@@ -32,7 +32,7 @@ add-stop : (g : Given) (p : Piece) (i : ℕ) → add g p i .stop ≡ i
 unfolding add
 add-stop g (bits n) i = refl
 add-stop g (target t) i = refl
-add-stop g (chars c) i = refl
+add-stop g (chars c q) i = refl
 
 module _ (s : List ℕ) where
   token-moves : (i : ℕ) (t : Token) → i ≤ length s → nextToken s i ≡ ok t → Moved (length s) i (t .place .stop)
@@ -87,9 +87,9 @@ module _ (s : List ℕ) where
   row-moves : (ls : List Name) (r : Row) (t : Token) (fs : List Field) (other : ℕ) (x : Read) → t .place .stop ≤ length s → rowRead s ls r t fs other ≡ ok (some x) → Moved (length s) (t .place .stop) (x .next)
   unfolding rowRead
   row-moves ls r t fs other x l e =
-      let u = gave (operandsFrom s fs other (given (r .base) none [] (t .place .stop))) _ (some x) e in
+      let u = gave (operandsFrom s fs other (bare (r .base) (t .place .stop))) _ (some x) e in
       let w = gave (lineEnd s (u .given′ .stop)) _ (some x) (u .then′) in
-      let a = operands-moves fs other (given (r .base) none [] (t .place .stop)) (u .given′) l (u .first) in
+      let a = operands-moves fs other (bare (r .base) (t .place .stop)) (u .given′) l (u .first) in
       let b = line-moves (u .given′ .stop) (w .given′) (a .in′) (w .first) in
       let q : read (stmt ls (r .op) (u .given′) (t .place .start)) (w .given′) ≡ x = cc (w .then′) in
       let n : x .next ≡ w .given′ = ap (λ (y : Read). y .next) (sym q) in

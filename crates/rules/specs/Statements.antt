@@ -6,7 +6,7 @@ use mathlib.Core.List.{List, [], _∷_, _++_}
 use mathlib.Core.Option.{Option, none, some}
 use lib.ListN.{length, drop, getD}
 use lib.Dec.{eqb, leb, ltb}
-use Rattle.rules.specs.Base.{if_then_else_, Outcome, ok, refused, _>>=_, refuse, _>>_, require, Span, span, has}
+use Rattle.rules.specs.Base.{if_then_else_, Outcome, ok, refused, _>>=_, refuse, _>>_, require, Span, span, nowhere, has}
 use Rattle.rules.specs.Capacities.{nameRoom}
 use Rattle.rules.specs.Tokens.{Num, plus, minus, Kind, Token, tokenIn, number, register, mark, word, directive, text, nextToken}
 use Rattle.rules.specs.Words.{Range, signed, Field, reg, regOrImm, num, near, name, string, Op, Row, instructions, directives, find}
@@ -21,19 +21,20 @@ pub record Target : Type 0 where
   pub field : Range
   pub name : Name
 
--- what an operand adds to its statement: bits of the word, a label whose offset or address is to be added, or characters
+-- what an operand adds to its statement: bits of the word, a label whose offset or address is to be added, or the characters of a string and its place
 pub data Piece : Type 0 where
   bits : ℕ → Piece
   target : Target → Piece
-  chars : List ℕ → Piece
+  chars : List ℕ → Span → Piece
 
--- A statement: its labels; what it does; its word or number, as far as it is known; its label operand; its string; its span.
+-- A statement: its labels; what it does; its word or number, as far as it is known; its label operand; its string, characters and place; its span.
 pub record Stmt : Type 0 where
   pub labels : List Name
   pub op : Op
   pub bits : ℕ
   pub target : Option Target
   pub chars : List ℕ
+  pub quote : Span
   pub place : Span
 
 -- tokens by kind
@@ -136,7 +137,7 @@ operand (near r) other t = elim (asNumber (t .kind)) [
 operand (name r) other t = need (asLabel (t .kind)) other (t .place) λ w. do
   l ← named w (t .place)
   ok (target (record { field = r; name = l }))
-operand string other t = need (asText (t .kind)) other (t .place) λ s. ok (chars s)
+operand string other t = need (asText (t .kind)) other (t .place) λ s. ok (chars s (t .place))
 
 -- a newline or the end of the source
 unfoldable pub ends : Kind → Bool
@@ -199,16 +200,21 @@ pub record Given : Type 0 where
   pub bits : ℕ
   pub target : Option Target
   pub chars : List ℕ
+  pub quote : Span
   pub stop : ℕ
 
-abbrev pub given : ℕ → Option Target → List ℕ → ℕ → Given
-given b t c i = record { bits = b; target = t; chars = c; stop = i }
+abbrev pub given : ℕ → Option Target → List ℕ → Span → ℕ → Given
+given b t c q i = record { bits = b; target = t; chars = c; quote = q; stop = i }
+
+-- before the first: the row's word
+abbrev pub bare : ℕ → ℕ → Given
+bare w i = given w none [] nowhere i
 
 -- one operand more: at most one is a label, and at most one a string
 unfoldable pub add : Given → Piece → ℕ → Given
-add g (bits n) i = given (g .bits + n) (g .target) (g .chars) i
-add g (target t) i = given (g .bits) (some t) (g .chars) i
-add g (chars s) i = given (g .bits) (g .target) s i
+add g (bits n) i = given (g .bits + n) (g .target) (g .chars) (g .quote) i
+add g (target t) i = given (g .bits) (some t) (g .chars) (g .quote) i
+add g (chars s q) i = given (g .bits) (g .target) s q i
 
 unfoldable pub operandAt : List ℕ → Field → ℕ → Given → ℕ → Outcome Given
 operandAt s f other g i = do
@@ -253,12 +259,12 @@ abbrev pub read : Stmt → ℕ → Read
 read s n = record { stmt = s; next = n }
 
 abbrev pub stmt : List Name → Op → Given → ℕ → Stmt
-stmt ls o g start = record { labels = ls; op = o; bits = g .bits; target = g .target; chars = g .chars; place = span start (g .stop) }
+stmt ls o g start = record { labels = ls; op = o; bits = g .bits; target = g .target; chars = g .chars; quote = g .quote; place = span start (g .stop) }
 
 -- A statement whose row is known, its first token and fields. A statement's span runs from its instruction or directive to its last operand.
 unfoldable pub rowRead : List ℕ → List Name → Row → Token → List Field → ℕ → Outcome (Option Read)
 rowRead s ls r t fs other = do
-  g ← operandsFrom s fs other (given (r .base) none [] (t .place .stop))
+  g ← operandsFrom s fs other (bare (r .base) (t .place .stop))
   n ← lineEnd s (g .stop)
   ok (some (read (stmt ls (r .op) g (t .place .start)) n))
 
