@@ -1,0 +1,2 @@
+-- Laws of tokens as the code tells them. Assumes nothing.
+pub mod NumberTold
