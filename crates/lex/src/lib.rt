@@ -1,13 +1,13 @@
 // The lexer: the next token of a source from a place on.
 ghost use mathlib.Core.Path.{_≡_};
-ghost use mathlib.Core.Bool.{false};
+ghost use mathlib.Core.Bool.{true, false};
 ghost use Prim.Native.Nat.{_+_, _≤_, _<_};
 ghost use lib.ListN.{length, getD};
-ghost use Rattle.rules.specs.Tokens.{space, wordAt, afterR, afterX, afterHash, afterMinus, afterQuote, tokenAt, nextToken};
+ghost use Rattle.rules.specs.Tokens.{letter, space, wordAt, afterR, afterX, afterHash, afterMinus, afterQuote, tokenAt, nextToken};
 ghost use Rattle.text.specs.Runs.{from};
 ghost use Rattle.token.specs.Coded.{coded, told};
 ghost use Rattle.token.specs.Meant.{meant};
-ghost use Rattle.lex.specs.Ways.{afterReturn, afterSemicolon};
+ghost use Rattle.lex.specs.Ways.{afterReturn, afterSemicolon, afterOther};
 use literals::Scanned;
 use text::Class;
 use token::Next;
@@ -168,4 +168,103 @@ fn lex_comment(src: &[u8], start: usize) -> Next
         };
     }
     Next::End(end)
+}
+
+// A token that begins with a letter.
+fn lex_letter(src: &[u8], start: usize) -> Next
+    requires { ⌜ (start < length (now src)) × (letter (getD (now src) start 0) ≡ true) ⌝ }
+    ensures { λ r. ⌜ r ≡ told (now (src .entry)) start (tokenAt (getD (now (src .entry)) start 0) (from (now (src .entry)) (start + 1))) ⌝ }
+{
+    let b = text::upper_case(src[start]);
+    if b == 82 {
+        return lex_r(src, start);
+    }
+    if b == 88 {
+        return lex_x(src, start);
+    }
+    lex_word(src, start)
+}
+
+// A token that begins with no letter, digit, hash or minus.
+fn lex_other(src: &[u8], start: usize) -> Next
+    requires { ⌜ (start < length (now src)) × (space (getD (now src) start 0) ≡ false) ⌝ }
+    ensures { λ r. ⌜ r ≡ told (now (src .entry)) start (afterOther (getD (now (src .entry)) start 0) (from (now (src .entry)) (start + 1))) ⌝ }
+{
+    let b = src[start];
+    let next = start + 1;
+    if b == 44 {
+        return Next::Took {
+            token: Token::Comma,
+            start,
+            end: next,
+        };
+    }
+    if b == 10 {
+        return Next::Took {
+            token: Token::NewLine,
+            start,
+            end: next,
+        };
+    }
+    if b == 59 {
+        return lex_comment(src, start);
+    }
+    if b == 46 {
+        return Next::Took {
+            token: Token::Directive,
+            start,
+            end: text::run_end(src, next, Class::Word),
+        };
+    }
+    if b == 34 {
+        return lex_str_literal(src, start);
+    }
+    if b == 13 {
+        return lex_return(src, start);
+    }
+    if b == 58 {
+        return Next::Took {
+            token: Token::Colon,
+            start,
+            end: next,
+        };
+    }
+    Next::Refused {
+        number: 10,
+        start,
+        end: next,
+    }
+}
+
+// The token that begins at a place where no space is.
+fn token_at(src: &[u8], start: usize) -> Next
+    requires { ⌜ (start < length (now src)) × (space (getD (now src) start 0) ≡ false) ⌝ }
+    ensures { λ r. ⌜ r ≡ told (now (src .entry)) start (tokenAt (getD (now (src .entry)) start 0) (from (now (src .entry)) (start + 1))) ⌝ }
+{
+    let b = src[start];
+    if text::is_letter(b) {
+        return lex_letter(src, start);
+    }
+    if text::is_digit(b) {
+        return token::lex_unsigned_dec(src, start, 0);
+    }
+    if b == 35 {
+        return lex_hash(src, start);
+    }
+    if b == 45 {
+        return lex_minus(src, start);
+    }
+    lex_other(src, start)
+}
+
+// The next token of the source from `at` on, past spaces, tabs and comments.
+pub fn next_token(src: &[u8], at: usize) -> Next
+    ensures means { λ r. ⌜ meant (now (src .entry)) r ≡ nextToken (now (src .entry)) at ⌝ }
+    ensures tells { λ r. ⌜ r ≡ coded (nextToken (now (src .entry)) at) ⌝ }
+{
+    let start = text::run_end(src, at, Class::Space);
+    if start < src.len() {
+        return token_at(src, start);
+    }
+    Next::End(start)
 }

@@ -1,7 +1,7 @@
 -- A number's reading is the rule's, and where the number ends. Assumes nothing.
 use Prim.Native.Nat.{ℕ, zero, suc, _+_, _-_, _*_, _<_, _≤_}
 use mathlib.Core.Path.{_≡_, refl, sym, _∙_, ap, subst}
-use mathlib.Core.Bool.{Bool, true, false, _&&_, _||_}
+use mathlib.Core.Bool.{Bool, true, false, _&&_}
 use mathlib.Core.List.{List, [], _∷_}
 use native.Mathlib.Nat.{not-suc-le-zero}
 use native.Mathlib.Omega.{arith}
@@ -11,7 +11,7 @@ use lib.ListN.{length, getD}
 use Rattle.rules.specs.Base.{if_then_else_, within}
 use Rattle.rules.specs.Tokens.{Form, Found, token, bad, digit, letter, wordy, upper, value, while, digits, read}
 use Rattle.rules.proofs.While.{yes-cons, no-cons}
-use Rattle.rules.proofs.Sizes.{digit-wordy, letter-wordy}
+use Rattle.rules.proofs.Sizes.{small, digit-wordy, letter-wordy}
 use Rattle.text.specs.Runs.{inClass, from, runEnd}
 use Rattle.text.specs.declared.Class.the-variants as class
 use Rattle.text.proofs.Rest.{from-step, from-end}
@@ -37,20 +37,12 @@ low-letter c e =
     let k : c ≤ 90 = omega arith in
     rw (le-leb 65 c l, le-leb c 90 k)
 
-small-letter : (c : ℕ) → within "a" "z" c ≡ true → letter c ≡ true
-unfolding letter
-small-letter c e = rw e (last (within "A" "Z" c))
-  where
-    last : (a : Bool) → (a || true || eqb c 95) ≡ true
-    last true = refl
-    last false = refl
-
 hex-letter : (c : ℕ) → within "A" "F" (upper c) ≡ true → letter c ≡ true
 unfolding upper if_then_else_
 hex-letter c e = go (within "a" "z" c) refl e
   where
     go : (b : Bool) → within "a" "z" c ≡ b → within "A" "F" (if b then c - 32 else c) ≡ true → letter c ≡ true
-    go true w e = small-letter c w
+    go true w e = small c w
     go false w e = low-letter c e
 
 value-wordy : (c : ℕ) → value c < 16 → wordy c ≡ true
