@@ -152,7 +152,7 @@ three k d s (register t) w e =
       op = op-of k d s t w r q g sum;
       first = first-of k d s t w r q g sum;
       second = second-of k d s t w r q g sum;
-      third = rw (eq-eqb _ _ bit, reg)
+      third = rw (eq-eqb _ _ bit, reg);
     }
 three k d s (value i) w e =
     let x = of-reg _ _ _ _ 512 d e in
@@ -171,7 +171,7 @@ three k d s (value i) w e =
       op = op-of k d s _ w r q g sum;
       first = first-of k d s _ w r q g sum;
       second = second-of k d s _ w r q g sum;
-      third = rw (ne-eqb _ _ bit, imm)
+      third = rw (ne-eqb _ _ bit, imm);
     }
 
 record Base (k b w : ℕ) : Type 0 where
@@ -230,12 +230,12 @@ unfolding cases if_then_else_ word made find instructions joined disassemble exa
 jump-shows b w h e =
     by-test (eqb b 7)
     (λ t.
-      let s : b ≡ 7 = eqb-true b 7 t in
-      let v : w ≡ 0xc1c0 = omega arith in
-      subst (λ (x : ℕ). Shown (JMP x) (disassemble w)) (sym s) (subst (λ (x : ℕ). Shown (JMP 7) (disassemble x)) (sym v) ret))
+    let s : b ≡ 7 = eqb-true b 7 t in
+    let v : w ≡ 0xc1c0 = omega arith in
+    subst (λ (x : ℕ). Shown (JMP x) (disassemble w)) (sym s) (subst (λ (x : ℕ). Shown (JMP 7) (disassemble x)) (sym v) ret))
     (λ t.
-      let n : w ≡ 0xc1c0 → ⊥ = λ v. eqb-false b 7 t (omega arith) in
-      asIs _ w (found 12 _ w (omega arith) (h .op) (rw (ne-eqb _ _ n, h .second)) e))
+    let n : w ≡ 0xc1c0 → ⊥ = λ v. eqb-false b 7 t (omega arith) in
+    asIs _ w (found 12 _ w (omega arith) (h .op) (rw (ne-eqb _ _ n, h .second)) e))
 
 -- what is below x0200 is a fill
 fill : (w : ℕ) → w < 512 → disassemble w ≡ none
