@@ -1,0 +1,2 @@
+-- What this crate's types mean, in the terms of `rules`. Assumes nothing.
+pub mod Fields
