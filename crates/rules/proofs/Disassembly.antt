@@ -9,7 +9,7 @@ use lib.Dec.{eqb, leb, ltb}
 use lib.ListN.{getD}
 use borrow.Author.Tests.{le-ltb, lt-ltb, le-leb, leb-true, leb-false, eq-eqb, eqb-true, eqb-false, ne-eqb}
 use Rattle.rules.specs.Base.{if_then_else_, bytes, same}
-use Rattle.rules.specs.Words.{Range, signed, unsigned, Field, reg, regOrImm, num, near, DR, SR, instructions, find, fits, field, extend, Operand, register, value, Instr, ADD, AND, NOT, BR, JMP, JSRR, JSR, NOP, LD, LDI, LEA, ST, STI, LDR, STR, TRAP, RET, RTI, GETC, OUT, PUTC, PUTS, IN, PUTSP, HALT, bits, joined, made, branch, word, cases, at9, at6, low, last, trap, jump, equals, exactly, disassemble, Shown, itself, out, ret, getc, putc, puts, in′, putsp, halt, nop, br}
+use Rattle.rules.specs.Words.{Range, signed, unsigned, Field, reg, regOrImm, num, near, DR, SR, instructions, find, fits, field, extend, Operand, register, value, Instr, ADD, AND, NOT, BR, JMP, JSRR, JSR, NOP, LD, LDI, LEA, ST, STI, LDR, STR, TRAP, RET, RTI, GETC, OUT, PUTC, PUTS, IN, PUTSP, HALT, bits, _⊕_, joined, made, branch, word, cases, at9, at6, low, last, trap, jump, equals, exactly, disassemble, Shown, itself, out, ret, getc, putc, puts, in′, putsp, halt, nop, br}
 use Rattle.rules.proofs.Fields.{by-test, Width, field-below, extend-field, field-unsigned, below-unsigned}
 
 -- disassembling a word to an instruction and encoding that gives the word
@@ -36,38 +36,45 @@ disassembled-encodes w i e = above (ltb w 512) e where
 -- one operand of an instruction's word: it fits, and the rest goes on with its bits added
 record Peeled (t : Bool) (w : ℕ) (fs : List Field) (os : List Operand) (v : ℕ) : Type 0 where
   pub holds : t ≡ true
-  pub rest : joined w fs os ≡ some v
+  pub rest : joined (some w) fs os ≡ some v
+
+joined-none : (fs : List Field) (os : List Operand) → joined none fs os ≡ none
+unfolding joined _⊕_
+joined-none [] [] = refl
+joined-none [] (o ∷ os) = refl
+joined-none (f ∷ fs) [] = refl
+joined-none (f ∷ fs) (o ∷ os) = joined-none fs os
 
 module _ (w : ℕ) (fs : List Field) (os : List Operand) (v : ℕ) where
-  peel : (f : Field) (o : Operand) (t : Bool) (n : ℕ) → bits f o ≡ (if t then some n else none) → joined w (f ∷ fs) (o ∷ os) ≡ some v → Peeled t (w + n) fs os v
-  unfolding joined if_then_else_
-  peel f o true n b e = record { holds = refl; rest = subst (λ (x : Option ℕ). elim x [ none ↦ none | some b ↦ joined (w + b) fs os ] ≡ some v) b e }
+  peel : (f : Field) (o : Operand) (t : Bool) (n : ℕ) → bits f o ≡ (if t then some n else none) → joined (some w) (f ∷ fs) (o ∷ os) ≡ some v → Peeled t (w + n) fs os v
+  unfolding joined if_then_else_ _⊕_
+  peel f o true n b e = record { holds = refl; rest = subst (λ (x : Option ℕ). joined (some w ⊕ x) fs os ≡ some v) b e }
   peel f o false n b e =
-      let h : _≡_ {A = Option ℕ} none (some v) = subst (λ (x : Option ℕ). elim x [ none ↦ none | some b ↦ joined (w + b) fs os ] ≡ some v) b e in
-      let z : _≡_ {A = ℕ} 0 1 = cc in
+      let h : joined none fs os ≡ some v = subst (λ (x : Option ℕ). joined (some w ⊕ x) fs os ≡ some v) b e in
+      let z : _≡_ {A = ℕ} 0 1 = cc (joined-none fs os) in
       absurd (omega arith)
 
-  of-reg : (m r : ℕ) → joined w (reg m ∷ fs) (register r ∷ os) ≡ some v → Peeled (leb r 7) (w + r * m) fs os v
+  of-reg : (m r : ℕ) → joined (some w) (reg m ∷ fs) (register r ∷ os) ≡ some v → Peeled (leb r 7) (w + r * m) fs os v
   unfolding bits
   of-reg m r e = peel (reg m) (register r) (leb r 7) (r * m) refl e
 
-  of-near : (r : Range) (d : ℕ) → joined w (near r ∷ fs) (value d ∷ os) ≡ some v → Peeled (fits r d) (w + field r d) fs os v
+  of-near : (r : Range) (d : ℕ) → joined (some w) (near r ∷ fs) (value d ∷ os) ≡ some v → Peeled (fits r d) (w + field r d) fs os v
   unfolding bits
   of-near r d e = peel (near r) (value d) (fits r d) (field r d) refl e
 
-  of-num : (r : Range) (d : ℕ) → joined w (num r ∷ fs) (value d ∷ os) ≡ some v → Peeled (fits r d) (w + field r d) fs os v
+  of-num : (r : Range) (d : ℕ) → joined (some w) (num r ∷ fs) (value d ∷ os) ≡ some v → Peeled (fits r d) (w + field r d) fs os v
   unfolding bits
   of-num r d e = peel (num r) (value d) (fits r d) (field r d) refl e
 
-  of-last : (r : ℕ) → joined w (regOrImm ∷ fs) (register r ∷ os) ≡ some v → Peeled (leb r 7) (w + r) fs os v
+  of-last : (r : ℕ) → joined (some w) (regOrImm ∷ fs) (register r ∷ os) ≡ some v → Peeled (leb r 7) (w + r) fs os v
   unfolding bits
   of-last r e = peel regOrImm (register r) (leb r 7) r refl e
 
-  of-imm : (d : ℕ) → joined w (regOrImm ∷ fs) (value d ∷ os) ≡ some v → Peeled (fits (signed 5) d) (w + (32 + field (signed 5) d)) fs os v
+  of-imm : (d : ℕ) → joined (some w) (regOrImm ∷ fs) (value d ∷ os) ≡ some v → Peeled (fits (signed 5) d) (w + (32 + field (signed 5) d)) fs os v
   unfolding bits
   of-imm d e = peel regOrImm (value d) (fits (signed 5) d) (32 + field (signed 5) d) refl e
 
-done : (w v : ℕ) → joined w [] [] ≡ some v → w ≡ v
+done : (w v : ℕ) → joined (some w) [] [] ≡ some v → w ≡ v
 unfolding joined
 done w v e = cc
 
@@ -89,7 +96,7 @@ record Nine (k d o w : ℕ) : Type 0 where
   pub first : at9 w ≡ d
   pub third : low 9 w ≡ o
 
-nine : (k d o w : ℕ) → joined (k * 4096) (DR ∷ near (signed 9) ∷ []) (register d ∷ value o ∷ []) ≡ some w → Nine k d o w
+nine : (k d o w : ℕ) → joined (some (k * 4096)) (DR ∷ near (signed 9) ∷ []) (register d ∷ value o ∷ []) ≡ some w → Nine k d o w
 nine k d o w e =
     let a = of-reg _ _ _ _ 512 d e in
     let b = of-near _ _ _ _ (signed 9) o (a .rest) in
@@ -105,7 +112,7 @@ record Six (k d b o w : ℕ) : Type 0 where
   pub second : at6 w ≡ b
   pub third : low 6 w ≡ o
 
-six : (k d b o w : ℕ) → joined (k * 4096) (DR ∷ SR ∷ num (signed 6) ∷ []) (register d ∷ register b ∷ value o ∷ []) ≡ some w → Six k d b o w
+six : (k d b o w : ℕ) → joined (some (k * 4096)) (DR ∷ SR ∷ num (signed 6) ∷ []) (register d ∷ register b ∷ value o ∷ []) ≡ some w → Six k d b o w
 six k d b o w e =
     let x = of-reg _ _ _ _ 512 d e in
     let y = of-reg _ _ _ _ 64 b (x .rest) in
@@ -134,7 +141,7 @@ record Three (k d s : ℕ) (o : Operand) (w : ℕ) : Type 0 where
   pub second : at6 w ≡ s
   pub third : last w ≡ o
 
-three : (k d s : ℕ) (o : Operand) (w : ℕ) → joined (k * 4096) (DR ∷ SR ∷ regOrImm ∷ []) (register d ∷ register s ∷ o ∷ []) ≡ some w → Three k d s o w
+three : (k d s : ℕ) (o : Operand) (w : ℕ) → joined (some (k * 4096)) (DR ∷ SR ∷ regOrImm ∷ []) (register d ∷ register s ∷ o ∷ []) ≡ some w → Three k d s o w
 unfolding if_then_else_
 three k d s (register t) w e =
     let x = of-reg _ _ _ _ 512 d e in
@@ -180,7 +187,7 @@ record Base (k b w : ℕ) : Type 0 where
   pub zeros : w ≡ k * 4096 + b * 64
   pub small : b ≤ 7
 
-base : (k b w : ℕ) → joined (k * 4096) (SR ∷ []) (register b ∷ []) ≡ some w → Base k b w
+base : (k b w : ℕ) → joined (some (k * 4096)) (SR ∷ []) (register b ∷ []) ≡ some w → Base k b w
 base k b w e =
     let x = of-reg _ _ _ _ 64 b e in
     let s = done _ _ (x .rest) in
@@ -200,7 +207,7 @@ record Not (d s w : ℕ) : Type 0 where
   pub first : at9 w ≡ d
   pub second : at6 w ≡ s
 
-negation : (d s w : ℕ) → joined 0x903f (DR ∷ SR ∷ []) (register d ∷ register s ∷ []) ≡ some w → Not d s w
+negation : (d s w : ℕ) → joined (some 0x903f) (DR ∷ SR ∷ []) (register d ∷ register s ∷ []) ≡ some w → Not d s w
 negation d s w e =
     let x = of-reg _ _ _ _ 512 d e in
     let y = of-reg _ _ _ _ 64 s (x .rest) in
@@ -216,7 +223,7 @@ record Eleven (o w : ℕ) : Type 0 where
   pub bit : w / 2048 % 2 ≡ 0 → ⊥
   pub third : low 11 w ≡ o
 
-eleven : (o w : ℕ) → joined 0x4800 (near (signed 11) ∷ []) (value o ∷ []) ≡ some w → Eleven o w
+eleven : (o w : ℕ) → joined (some 0x4800) (near (signed 11) ∷ []) (value o ∷ []) ≡ some w → Eleven o w
 eleven o w e =
     let b = of-near _ _ _ _ (signed 11) o e in
     let s = done _ _ (b .rest) in
@@ -242,17 +249,17 @@ fill : (w : ℕ) → w < 512 → disassemble w ≡ none
 unfolding disassemble if_then_else_
 fill w l = rw (lt-ltb w 512 l)
 
-low9 : (b o w : ℕ) → joined b (near (signed 9) ∷ []) (value o ∷ []) ≡ some w → (fits (signed 9) o ≡ true) × (field (signed 9) o < 512) × (w ≡ b + field (signed 9) o)
+low9 : (b o w : ℕ) → joined (some b) (near (signed 9) ∷ []) (value o ∷ []) ≡ some w → (fits (signed 9) o ≡ true) × (field (signed 9) o < 512) × (w ≡ b + field (signed 9) o)
 low9 b o w e =
     let x = of-near _ _ _ _ (signed 9) o e in
     let s = done _ _ (x .rest) in
     (x .holds, field-below 9 (wide 9 (omega arith) (omega arith)) o, omega arith)
 
-below : (o w : ℕ) → joined 0 (near (signed 9) ∷ []) (value o ∷ []) ≡ some w → disassemble w ≡ none
+below : (o w : ℕ) → joined (some 0) (near (signed 9) ∷ []) (value o ∷ []) ≡ some w → disassemble w ≡ none
 below o w e = let h = low9 0 o w e in fill w (omega arith)
 
 -- a branch, by n, z and p
-branched : (c o w : ℕ) → 1 ≤ c → c ≤ 7 → joined (c * 512) (near (signed 9) ∷ []) (value o ∷ []) ≡ some w → word (BR c o) ≡ some w → Shown (BR c o) (disassemble w)
+branched : (c o w : ℕ) → 1 ≤ c → c ≤ 7 → joined (some (c * 512)) (near (signed 9) ∷ []) (value o ∷ []) ≡ some w → word (BR c o) ≡ some w → Shown (BR c o) (disassemble w)
 unfolding cases
 branched c o w l m e f =
     let h = low9 (c * 512) o w e in
@@ -294,7 +301,7 @@ named (suc (suc (suc (suc (suc (suc k)))))) v w p l q e =
     let s : v - 32 ≡ suc (suc (suc (suc (suc (suc k))))) = omega arith in
     trapped v w l q (rw (le-leb 32 v (omega arith), s)) e
 
-trap-shows : (v w : ℕ) → joined 0xf000 (num (unsigned 8) ∷ []) (value v ∷ []) ≡ some w → word (TRAP v) ≡ some w → Shown (TRAP v) (disassemble w)
+trap-shows : (v w : ℕ) → joined (some 0xf000) (num (unsigned 8) ∷ []) (value v ∷ []) ≡ some w → word (TRAP v) ≡ some w → Shown (TRAP v) (disassemble w)
 unfolding if_then_else_
 trap-shows v w e f =
     let x = of-num _ _ _ _ (unsigned 8) v e in

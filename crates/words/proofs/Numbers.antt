@@ -98,20 +98,20 @@ module _ (w : ℕ) (wide : Width w) where
   same-test d f =
       by-test (ltb d 32768)
       (λ t. let l = ltb-true _ _ t in
-        by-test (ltb (2 ^ (w - 1) - 1) d)
-        (λ s. let o = ltb-true _ _ s in
-          let k : d < 65536 - 2 ^ (w - 1) = omega (arith, half) in
-          rw (low-up d l, s, fits-not (signed w) d o k))
-        (λ s. rw (low-up d l, s, fits-above (signed w) d (ltb-false _ _ s))))
+      by-test (ltb (2 ^ (w - 1) - 1) d)
+      (λ s. let o = ltb-true _ _ s in
+      let k : d < 65536 - 2 ^ (w - 1) = omega (arith, half) in
+      rw (low-up d l, s, fits-not (signed w) d o k))
+      (λ s. rw (low-up d l, s, fits-above (signed w) d (ltb-false _ _ s))))
       (λ t. let l = ltb-false _ _ t in
-        by-test (ltb (2 ^ (w - 1) - 1) (65535 - d))
-        (λ s. let o : 2 ^ (w - 1) - 1 < 65535 - d = ltb-true _ _ s in
-          let j : 2 ^ (w - 1) - 1 < d = omega (arith, half) in
-          let k : d < 65536 - 2 ^ (w - 1) = omega (arith, half) in
-          rw (low-down d l, s, fits-not (signed w) d j k))
-        (λ s. let o : 65535 - d ≤ 2 ^ (w - 1) - 1 = ltb-false _ _ s in
-          let k : 65536 - 2 ^ (w - 1) ≤ d = omega (arith, half, pow-pos (w - 1)) in
-          rw (low-down d l, s, fits-below (signed w) d k f)))
+      by-test (ltb (2 ^ (w - 1) - 1) (65535 - d))
+      (λ s. let o : 2 ^ (w - 1) - 1 < 65535 - d = ltb-true _ _ s in
+      let j : 2 ^ (w - 1) - 1 < d = omega (arith, half) in
+      let k : d < 65536 - 2 ^ (w - 1) = omega (arith, half) in
+      rw (low-down d l, s, fits-not (signed w) d j k))
+      (λ s. let o : 65535 - d ≤ 2 ^ (w - 1) - 1 = ltb-false _ _ s in
+      let k : 65536 - 2 ^ (w - 1) ≤ d = omega (arith, half, pow-pos (w - 1)) in
+      rw (low-down d l, s, fits-below (signed w) d k f)))
 
   pub reached : (label pc : ℕ) → meantOffset (tested (negsuc (2 ^ (w - 1) - 1)) (pos (2 ^ (w - 1) - 1)) (offset label pc)) ≡ reach (signed w) label pc nowhere
   unfolding reach offset ruled
