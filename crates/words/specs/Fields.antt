@@ -17,6 +17,15 @@ abbrev pub encoded : Option ℕ → Encoded
 encoded none = Outside
 encoded (some b) = Bits b
 
+-- and back, and how large they are
+abbrev pub inside : Encoded → Option ℕ
+inside (Bits b) = some b
+inside Outside = none
+
+abbrev pub size : Encoded → ℕ
+size (Bits b) = b
+size Outside = 0
+
 -- a number's bits in a field; 15 where it lies outside
 abbrev pub meantBits : Encoded → Outcome ℕ
 meantBits (Bits b) = ok b

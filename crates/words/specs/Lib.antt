@@ -1,2 +1,3 @@
 -- What this crate's types mean, in the terms of `rules`. Assumes nothing.
 pub mod Fields
+pub mod Instructions

@@ -66,7 +66,7 @@ pub fn trap8(negative: bool, size: u16) -> Encoded
 }
 
 // A number of sixteen bits: its bits in a field where it lies from -low to high.
-pub fn value_bits(d: u16, low: u16, high: u16, modulus: u16) -> Encoded
+fn value_bits(d: u16, low: u16, high: u16, modulus: u16) -> Encoded
     requires { ⌜ 0 < modulus ⌝ }
     ensures { λ r. ⌜ r ≡ encoded (bits (num (range low high modulus)) (value d)) ⌝ }
 {
@@ -77,6 +77,31 @@ pub fn value_bits(d: u16, low: u16, high: u16, modulus: u16) -> Encoded
         return Encoded::Bits(d % modulus);
     }
     Encoded::Outside
+}
+
+// The low bits of a word, from a number of sixteen bits that fits them.
+pub fn low5(d: u16) -> Encoded
+    ensures { λ r. ⌜ r ≡ encoded (bits (num (signed 5)) (value d)) ⌝ }
+{
+    value_bits(d, 16, 15, 32)
+}
+
+pub fn low6(d: u16) -> Encoded
+    ensures { λ r. ⌜ r ≡ encoded (bits (num (signed 6)) (value d)) ⌝ }
+{
+    value_bits(d, 32, 31, 64)
+}
+
+pub fn low9(d: u16) -> Encoded
+    ensures { λ r. ⌜ r ≡ encoded (bits (num (signed 9)) (value d)) ⌝ }
+{
+    value_bits(d, 256, 255, 512)
+}
+
+pub fn low11(d: u16) -> Encoded
+    ensures { λ r. ⌜ r ≡ encoded (bits (num (signed 11)) (value d)) ⌝ }
+{
+    value_bits(d, 1024, 1023, 2048)
 }
 
 // Sixteen bits read as a signed offset.
