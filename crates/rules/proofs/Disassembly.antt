@@ -79,7 +79,7 @@ unfolding joined
 done w v e = cc
 
 -- the case of the word's four high bits is the instruction whose word it is
-found : (k : ℕ) (i : Instr) (w : ℕ) → 512 ≤ w → w / 4096 ≡ k → getD (cases w) k none ≡ some i → word i ≡ some w → disassemble w ≡ some i
+pub found : (k : ℕ) (i : Instr) (w : ℕ) → 512 ≤ w → w / 4096 ≡ k → getD (cases w) k none ≡ some i → word i ≡ some w → disassemble w ≡ some i
 unfolding disassemble exactly equals if_then_else_
 found k i w l p c e = rw (le-ltb w 512 l, p, c, e, eq-eqb w w refl)
 

@@ -57,7 +57,7 @@ unfolding bits if_then_else_
 reg-out o r p l = rw (p, lt-leb r 7 l)
 
 -- a word with two registers and the low bits
-reg-bits : (m r : ℕ) → r ≤ 7 → bits (reg m) (register r) ≡ some (r * m)
+pub reg-bits : (m r : ℕ) → r ≤ 7 → bits (reg m) (register r) ≡ some (r * m)
 unfolding bits if_then_else_
 reg-bits m r l = rw (le-leb r 7 l)
 

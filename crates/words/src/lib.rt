@@ -6,6 +6,7 @@ ghost use Rattle.rules.specs.Words.{DR, SR, regOrImm, num, unsigned, register, 
 ghost use Rattle.words.specs.Fields.{encoded, size, inside};
 ghost use Rattle.words.specs.Instructions.{operandOf, meant};
 
+pub mod disassembly; // disassembly.rt: from a word back to its instruction
 pub mod fields; // fields.rt: numbers in the fields of a word
 
 use fields::Encoded;

@@ -1,0 +1,124 @@
+// From a word back to the instruction that encodes to exactly it, or to a fill.
+ghost use mathlib.Core.Path.{_≡_};
+ghost use Prim.Native.Nat.{_+_, _-_, _/_, _≤_, _<_};
+ghost use Rattle.rules.specs.Words.{low, disassemble, line};
+ghost use Rattle.words.specs.Disassembly.{extended, lastOf, meantIf, meantLine};
+use crate::AsmInstr;
+use crate::ImmOrReg;
+
+// What a word disassembles to, if it is an instruction.
+pub enum Disassembled {
+    Instr(AsmInstr),
+    Nothing,
+}
+
+// A line of disassembly: an instruction, or a .fill of the word.
+pub enum Line {
+    Instr(AsmInstr),
+    Fill(u16),
+}
+
+// The last operand of ADD and AND, if its bits can be one.
+enum Last {
+    Operand(ImmOrReg),
+    Malformed,
+}
+
+// The bits of a signed field whose numbers are two halves: the sign bit fills the high ones.
+fn sign_extend(bits: u16, half: u16) -> u16
+    requires { ⌜ (0 < half) × (half ≤ 32768) × (bits < half + half) ⌝ }
+    ensures { λ r. ⌜ r ≡ extended half bits ⌝ }
+{
+    if bits < half {
+        bits
+    } else {
+        bits + (65535 - (half - 1) - half)
+    }
+}
+
+fn imm5(word: u16) -> u16
+    ensures { λ r. ⌜ r ≡ low 5 word ⌝ }
+{
+    sign_extend(word % 32, 16)
+}
+
+fn offset6(word: u16) -> u16
+    ensures { λ r. ⌜ r ≡ low 6 word ⌝ }
+{
+    sign_extend(word % 64, 32)
+}
+
+fn offset9(word: u16) -> u16
+    ensures { λ r. ⌜ r ≡ low 9 word ⌝ }
+{
+    sign_extend(word % 512, 256)
+}
+
+fn offset11(word: u16) -> u16
+    ensures { λ r. ⌜ r ≡ low 11 word ⌝ }
+{
+    sign_extend(word % 2048, 1024)
+}
+
+fn last_operand(word: u16) -> Last
+    ensures { λ r. ⌜ r ≡ lastOf word ⌝ }
+{
+    if word / 32 % 2 == 1 {
+        return Last::Operand(ImmOrReg::Imm(imm5(word)));
+    }
+    if word / 8 % 4 == 0 {
+        return Last::Operand(ImmOrReg::Reg(word % 8));
+    }
+    Last::Malformed
+}
+
+fn decode_jsr(word: u16) -> Disassembled
+    requires { ⌜ word / 4096 ≡ 4 ⌝ }
+    ensures { λ r. ⌜ meantIf r ≡ disassemble word ⌝ }
+{
+    if word / 2048 % 2 == 1 {
+        return Disassembled::Instr(AsmInstr::JSR(offset11(word)));
+    }
+    if word / 512 % 4 == 0 {
+        if word % 64 == 0 {
+            return Disassembled::Instr(AsmInstr::JSRR(word / 64 % 8));
+        }
+    }
+    Disassembled::Nothing
+}
+
+fn decode_jmp(word: u16) -> Disassembled
+    requires { ⌜ word / 4096 ≡ 12 ⌝ }
+    ensures { λ r. ⌜ meantIf r ≡ disassemble word ⌝ }
+{
+    let reg = word / 64 % 8;
+    if word / 512 % 8 == 0 {
+        if word % 64 == 0 {
+            if reg == 7 {
+                return Disassembled::Instr(AsmInstr::RET);
+            }
+            return Disassembled::Instr(AsmInstr::JMP(reg));
+        }
+    }
+    Disassembled::Nothing
+}
+
+fn decode_trap(word: u16) -> Disassembled
+    requires { ⌜ word / 4096 ≡ 15 ⌝ }
+    ensures { λ r. ⌜ meantIf r ≡ disassemble word ⌝ }
+{
+    let vect = word % 256;
+    if word / 256 == 240 {
+        match vect {
+            0x20 => Disassembled::Instr(AsmInstr::GETC),
+            0x21 => Disassembled::Instr(AsmInstr::PUTC),
+            0x22 => Disassembled::Instr(AsmInstr::PUTS),
+            0x23 => Disassembled::Instr(AsmInstr::IN),
+            0x24 => Disassembled::Instr(AsmInstr::PUTSP),
+            0x25 => Disassembled::Instr(AsmInstr::HALT),
+            _ => Disassembled::Instr(AsmInstr::TRAP(vect)),
+        }
+    } else {
+        Disassembled::Nothing
+    }
+}
