@@ -9,7 +9,7 @@ use mathlib.Core.Path.{_≡_, refl, ap, sym, subst, _∙_}
 use lib.Dec.{eqb, leb, ltb}
 use lib.ListN.{getD}
 use lib.Pow.{pow-pos}
-use borrow.Author.Tests.{lt-ltb, le-ltb, le-leb, lt-leb, eq-eqb, ne-eqb, leb-true}
+use borrow.Author.Tests.{lt-ltb, le-ltb, le-leb, lt-leb, eq-eqb, ne-eqb, leb-true, eqb-true, eqb-false}
 use Rattle.rules.specs.Base.{if_then_else_}
 use Rattle.rules.specs.Words as R
 use Rattle.rules.specs.Words.{Instr, signed, unsigned, reg, regOrImm, num, near, DR, SR, instructions, find, fits, field, extend, register, value, bits, _⊕_, joined, made, branch, word, cases, at9, at6, low, last, trap, jump, equals, exactly, disassemble, line}
@@ -17,12 +17,15 @@ use Rattle.rules.proofs.Fields.{by-test, Width, field-extend, extend-fits, fits
 use Rattle.rules.proofs.Disassembly.{found}
 use Rattle.words.proofs.Parts.{reg-bits, branched, one-reg}
 use Rattle.words.specs.Instructions.{operandOf, meant}
-use Rattle.words.specs.Disassembly.{extended, lastOf}
+use Rattle.words.specs.Disassembly.{extended, lastOf, meantIf}
 use Rattle.words.specs.declared.ImmOrReg.{ImmOrReg}
 use Rattle.words.specs.declared.ImmOrReg.the-variants.{Imm, Reg}
+use Rattle.words.specs.declared.disassembly.Disassembled.{Disassembled}
+use Rattle.words.specs.declared.disassembly.Disassembled.the-variants as DV
+use Rattle.words.specs.declared.disassembly.Last.{Last}
 use Rattle.words.specs.declared.disassembly.Last.the-variants.{Operand, Malformed}
 use Rattle.words.specs.declared.AsmInstr.{AsmInstr}
-use Rattle.words.specs.declared.AsmInstr.the-variants.{BR, JMP, JSR, JSRR, NOT, RET, RTI, TRAP, GETC, PUTC, PUTS, IN, PUTSP, HALT}
+use Rattle.words.specs.declared.AsmInstr.the-variants.{ADD, AND, LD, LDI, LDR, LEA, ST, STI, STR, BR, JMP, JSR, JSRR, NOT, RET, RTI, TRAP, GETC, PUTC, PUTS, IN, PUTSP, HALT}
 
 -- an instruction that encodes to another word is none
 refused : (k : ℕ) (i : Instr) (w v : ℕ) → 512 ≤ w → w / 4096 ≡ k → getD (cases w) k none ≡ some i → word i ≡ some v → (v ≡ w → ⊥) → disassemble w ≡ none
@@ -50,7 +53,7 @@ nine-sum : (k w : ℕ) → w / 4096 ≡ k → some (k * 4096) ⊕ bits DR (regis
 unfolding _⊕_
 nine-sum k w e = rw (reg-bits 512 (at9 w) (eight (w / 512)), near-low 9 (wide 9 (omega arith) (omega arith)) w) (ap some (omega arith))
 
-pub nine-shows :
+nine-shows :
     (k : ℕ) (A : ℕ → ℕ → AsmInstr) → 1 ≤ k → ((w : ℕ) → getD (cases w) k none ≡ some (meant (A (at9 w) (low 9 w)))) →
     ((d o : ℕ) → word (meant (A d o)) ≡ some (k * 4096) ⊕ bits DR (register d) ⊕ bits (near (signed 9)) (value o)) →
     (w r : ℕ) → w / 4096 ≡ k → r ≡ low 9 w → some (meant (A (at9 w) r)) ≡ disassemble w
@@ -62,7 +65,7 @@ unfolding _⊕_
 six-sum k w e =
     rw (reg-bits 512 (at9 w) (eight (w / 512)), reg-bits 64 (at6 w) (eight (w / 64)), num-low 6 (wide 6 (omega arith) (omega arith)) w) (ap some (omega arith))
 
-pub six-shows :
+six-shows :
     (k : ℕ) (A : ℕ → ℕ → ℕ → AsmInstr) → 1 ≤ k → ((w : ℕ) → getD (cases w) k none ≡ some (meant (A (at9 w) (at6 w) (low 6 w)))) →
     ((d b o : ℕ) → word (meant (A d b o)) ≡ some (k * 4096) ⊕ bits DR (register d) ⊕ bits SR (register b) ⊕ bits (num (signed 6)) (value o)) →
     (w r : ℕ) → w / 4096 ≡ k → r ≡ low 6 w → some (meant (A (at9 w) (at6 w) r)) ≡ disassemble w
@@ -107,6 +110,9 @@ by-2048 n = sym (div-div-eq-div-mul n 512 4)
 by-4096 : (n : ℕ) → n / 4096 ≡ n / 2048 / 2
 by-4096 n = sym (div-div-eq-div-mul n 2048 2)
 
+even : (w : ℕ) → (w / 32 % 2 ≡ 1 → ⊥) → w / 32 % 2 ≡ 0
+even w n = omega arith
+
 -- two registers and a register or an imm5
 last-imm : (w : ℕ) → w / 32 % 2 ≡ 1 → last w ≡ value (low 5 w)
 unfolding if_then_else_
@@ -150,21 +156,72 @@ module _
     case-of : (w : ℕ) (o : R.Operand) → last w ≡ o → getD (cases w) k none ≡ some (B (at9 w) (at6 w) o)
     case-of w o e = c w ∙ ap (λ (x : R.Operand). some (B (at9 w) (at6 w) x)) e
 
-    pub imm-shows : (w : ℕ) → w / 4096 ≡ k → w / 32 % 2 ≡ 1 → some (meant (A (at9 w) (at6 w) (Imm (low 5 w)))) ≡ disassemble w
+    imm-shows : (w : ℕ) → w / 4096 ≡ k → w / 32 % 2 ≡ 1 → some (meant (A (at9 w) (at6 w) (Imm (low 5 w)))) ≡ disassemble w
     imm-shows w p b =
         ap some (same (at9 w) (at6 w) (Imm (low 5 w)))
         ∙ sym (found k _ w (omega arith) p (case-of w _ (last-imm w b)) (row (at9 w) (at6 w) (value (low 5 w)) ∙ imm-sum k w p b))
 
-    pub reg-shows : (w : ℕ) → w / 4096 ≡ k → w / 32 % 2 ≡ 0 → w / 8 % 4 ≡ 0 → some (meant (A (at9 w) (at6 w) (Reg (w % 8)))) ≡ disassemble w
+    reg-shows : (w : ℕ) → w / 4096 ≡ k → w / 32 % 2 ≡ 0 → w / 8 % 4 ≡ 0 → some (meant (A (at9 w) (at6 w) (Reg (w % 8)))) ≡ disassemble w
     reg-shows w p b z =
         let f : w % 64 ≡ w % 8 = omega (arith, low-five w, low-three w) in
         ap some (same (at9 w) (at6 w) (Reg (w % 8)))
         ∙ sym
         (found k _ w (omega arith) p (case-of w _ (last-reg w b)) (row (at9 w) (at6 w) (register (w % 8)) ∙ reg-sum k w ∙ ap some (sum-with k w _ p f)))
 
-    pub reg-hides : (w : ℕ) → w / 4096 ≡ k → w / 32 % 2 ≡ 0 → (w / 8 % 4 ≡ 0 → ⊥) → none ≡ disassemble w
+    reg-hides : (w : ℕ) → w / 4096 ≡ k → w / 32 % 2 ≡ 0 → (w / 8 % 4 ≡ 0 → ⊥) → none ≡ disassemble w
     reg-hides w p b z =
         sym (refused k _ w _ (omega arith) p (case-of w _ (last-reg w b)) (row (at9 w) (at6 w) (register (w % 8)) ∙ reg-sum k w) (λ e. z (no-middle w b (sum-back k w _ p e))))
+
+    operand-shows : (w : ℕ) (o : ImmOrReg) → w / 4096 ≡ k → lastOf w ≡ Operand o → some (meant (A (at9 w) (at6 w) o)) ≡ disassemble w
+    unfolding if_then_else_
+    operand-shows w o p q =
+        by-test (eqb (w / 32 % 2) 1)
+        (λ t.
+        let h : Operand (Imm (low 5 w)) ≡ Operand o = rw t at q in
+        let e : Imm (low 5 w) ≡ o = cc in
+        ap (λ (x : ImmOrReg). some (meant (A (at9 w) (at6 w) x))) (sym e) ∙ imm-shows w p (eqb-true _ _ t))
+        (λ t.
+        by-test (eqb (w / 8 % 4) 0)
+        (λ u.
+        let h : Operand (Reg (w % 8)) ≡ Operand o = rw (t, u) at q in
+        let e : Reg (w % 8) ≡ o = cc in
+        ap (λ (x : ImmOrReg). some (meant (A (at9 w) (at6 w) x))) (sym e) ∙ reg-shows w p (even w (eqb-false _ _ t)) (eqb-true _ _ u))
+        (λ u.
+        let h : Malformed ≡ Operand o = rw (t, u) at q in
+        let z : _≡_ {A = ℕ} 0 1 = cc in
+        absurd (omega arith)))
+
+    operand-hides : (w : ℕ) → w / 4096 ≡ k → lastOf w ≡ Malformed → none ≡ disassemble w
+    unfolding if_then_else_
+    operand-hides w p q =
+        by-test (eqb (w / 32 % 2) 1)
+        (λ t.
+        let h : Operand (Imm (low 5 w)) ≡ Malformed = rw t at q in
+        let z : _≡_ {A = ℕ} 0 1 = cc in
+        absurd (omega arith))
+        (λ t.
+        by-test (eqb (w / 8 % 4) 0)
+        (λ u.
+        let h : Operand (Reg (w % 8)) ≡ Malformed = rw (t, u) at q in
+        let z : _≡_ {A = ℕ} 0 1 = cc in
+        absurd (omega arith))
+        (λ u. reg-hides w p (even w (eqb-false _ _ t)) (eqb-false _ _ u)))
+
+pub add-shows : (w : ℕ) (x : Last) (o : ImmOrReg) → w / 4096 ≡ 1 → x ≡ lastOf w → x ≡ Operand o → some (meant (ADD (at9 w) (at6 w) o)) ≡ disassemble w
+unfolding meant cases word made find instructions joined if_then_else_
+add-shows w x o p q r = operand-shows 1 ADD (omega arith) R.ADD (λ d s o. refl) (λ w. refl) (λ d s o. refl) w o p (sym q ∙ r)
+
+pub and-shows : (w : ℕ) (x : Last) (o : ImmOrReg) → w / 4096 ≡ 5 → x ≡ lastOf w → x ≡ Operand o → some (meant (AND (at9 w) (at6 w) o)) ≡ disassemble w
+unfolding meant cases word made find instructions joined if_then_else_
+and-shows w x o p q r = operand-shows 5 AND (omega arith) R.AND (λ d s o. refl) (λ w. refl) (λ d s o. refl) w o p (sym q ∙ r)
+
+pub add-hides : (w : ℕ) (x : Last) → w / 4096 ≡ 1 → x ≡ lastOf w → x ≡ Malformed → none ≡ disassemble w
+unfolding meant cases word made find instructions joined if_then_else_
+add-hides w x p q r = operand-hides 1 ADD (omega arith) R.ADD (λ d s o. refl) (λ w. refl) (λ d s o. refl) w p (sym q ∙ r)
+
+pub and-hides : (w : ℕ) (x : Last) → w / 4096 ≡ 5 → x ≡ lastOf w → x ≡ Malformed → none ≡ disassemble w
+unfolding meant cases word made find instructions joined if_then_else_
+and-hides w x p q r = operand-hides 5 AND (omega arith) R.AND (λ d s o. refl) (λ w. refl) (λ d s o. refl) w p (sym q ∙ r)
 
 -- BR
 branch-sum : (w : ℕ) → w / 4096 ≡ 0 → some 0 ⊕ bits DR (register (at9 w)) ⊕ bits (num (signed 9)) (value (low 9 w)) ≡ some w
@@ -279,7 +336,7 @@ trap-word : (v : ℕ) → v ≤ 255 → word (R.TRAP v) ≡ some (0xf000 + v)
 unfolding word made find instructions joined bits field if_then_else_ _⊕_
 trap-word v l = rw (fits-above (unsigned 8) v l, mod-eq-of-lt {n = v} {m = 256} (omega arith))
 
-up : {k x : ℕ} → k ≤ x → (x ≡ k → ⊥) → suc k ≤ x
+pub up : {k x : ℕ} → k ≤ x → (x ≡ k → ⊥) → suc k ≤ x
 up l n = omega arith
 
 past : (v : ℕ) → 38 ≤ v → v - 32 ≡ suc (suc (suc (suc (suc (suc (v - 38))))))
@@ -382,3 +439,47 @@ last-register w b z = rw (ne-eqb (w / 32 % 2) 1 b, eq-eqb (w / 8 % 4) 0 z)
 pub last-malformed : (w : ℕ) → (w / 32 % 2 ≡ 1 → ⊥) → (w / 8 % 4 ≡ 0 → ⊥) → Malformed ≡ lastOf w
 unfolding if_then_else_
 last-malformed w b z = rw (ne-eqb (w / 32 % 2) 1 b, ne-eqb (w / 8 % 4) 0 z)
+
+-- the instructions of one shape
+pub ld-shows : (w r : ℕ) → w / 4096 ≡ 2 → r ≡ low 9 w → some (meant (LD (at9 w) r)) ≡ disassemble w
+unfolding meant cases word made find instructions joined if_then_else_
+ld-shows = nine-shows 2 LD (omega arith) (λ w. refl) (λ d o. refl)
+
+pub st-shows : (w r : ℕ) → w / 4096 ≡ 3 → r ≡ low 9 w → some (meant (ST (at9 w) r)) ≡ disassemble w
+unfolding meant cases word made find instructions joined if_then_else_
+st-shows = nine-shows 3 ST (omega arith) (λ w. refl) (λ d o. refl)
+
+pub ldi-shows : (w r : ℕ) → w / 4096 ≡ 10 → r ≡ low 9 w → some (meant (LDI (at9 w) r)) ≡ disassemble w
+unfolding meant cases word made find instructions joined if_then_else_
+ldi-shows = nine-shows 10 LDI (omega arith) (λ w. refl) (λ d o. refl)
+
+pub sti-shows : (w r : ℕ) → w / 4096 ≡ 11 → r ≡ low 9 w → some (meant (STI (at9 w) r)) ≡ disassemble w
+unfolding meant cases word made find instructions joined if_then_else_
+sti-shows = nine-shows 11 STI (omega arith) (λ w. refl) (λ d o. refl)
+
+pub lea-shows : (w r : ℕ) → w / 4096 ≡ 14 → r ≡ low 9 w → some (meant (LEA (at9 w) r)) ≡ disassemble w
+unfolding meant cases word made find instructions joined if_then_else_
+lea-shows = nine-shows 14 LEA (omega arith) (λ w. refl) (λ d o. refl)
+
+pub ldr-shows : (w r : ℕ) → w / 4096 ≡ 6 → r ≡ low 6 w → some (meant (LDR (at9 w) (at6 w) r)) ≡ disassemble w
+unfolding meant cases word made find instructions joined if_then_else_
+ldr-shows = six-shows 6 LDR (omega arith) (λ w. refl) (λ d b o. refl)
+
+pub str-shows : (w r : ℕ) → w / 4096 ≡ 7 → r ≡ low 6 w → some (meant (STR (at9 w) (at6 w) r)) ≡ disassemble w
+unfolding meant cases word made find instructions joined if_then_else_
+str-shows = six-shows 7 STR (omega arith) (λ w. refl) (λ d b o. refl)
+
+-- a line: the instruction, or a fill
+pub line-instr : (w : ℕ) (x : Disassembled) (i : AsmInstr) → meantIf x ≡ disassemble w → x ≡ DV.Instr i → R.instruction (meant i) ≡ line w
+unfolding line
+line-instr w x i p q = of-some (disassemble w) (sym p ∙ ap meantIf q) where
+  of-some : (d : Option Instr) → d ≡ some (meant i) → R.instruction (meant i) ≡ elim d [ none ↦ R.filled w | some j ↦ R.instruction j ]
+  of-some none e = let z : _≡_ {A = ℕ} 0 1 = cc in absurd (omega arith)
+  of-some (some j) e = let h : j ≡ meant i = cc in ap R.instruction (sym h)
+
+pub line-fill : (w : ℕ) (x : Disassembled) → meantIf x ≡ disassemble w → x ≡ DV.Nothing → R.filled w ≡ line w
+unfolding line
+line-fill w x p q = of-none (disassemble w) (sym p ∙ ap meantIf q) where
+  of-none : (d : Option Instr) → d ≡ none → R.filled w ≡ elim d [ none ↦ R.filled w | some j ↦ R.instruction j ]
+  of-none none e = refl
+  of-none (some j) e = let z : _≡_ {A = ℕ} 0 1 = cc in absurd (omega arith)

@@ -122,3 +122,61 @@ fn decode_trap(word: u16) -> Disassembled
         Disassembled::Nothing
     }
 }
+
+// The instruction that encodes to exactly this word.
+pub fn try_disassemble_line(word: u16) -> Disassembled
+    ensures { λ r. ⌜ meantIf r ≡ disassemble word ⌝ }
+{
+    if word < 0x0200 {
+        return Disassembled::Nothing;
+    }
+    let dr = word / 512 % 8;
+    let sr = word / 64 % 8;
+    let opcode = word / 4096;
+    match opcode {
+        0 => Disassembled::Instr(AsmInstr::BR(dr, offset9(word))),
+        1 => match last_operand(word) {
+            Last::Operand(o) => Disassembled::Instr(AsmInstr::ADD(dr, sr, o)),
+            Last::Malformed => Disassembled::Nothing,
+        },
+        2 => Disassembled::Instr(AsmInstr::LD(dr, offset9(word))),
+        3 => Disassembled::Instr(AsmInstr::ST(dr, offset9(word))),
+        4 => decode_jsr(word),
+        5 => match last_operand(word) {
+            Last::Operand(o) => Disassembled::Instr(AsmInstr::AND(dr, sr, o)),
+            Last::Malformed => Disassembled::Nothing,
+        },
+        6 => Disassembled::Instr(AsmInstr::LDR(dr, sr, offset6(word))),
+        7 => Disassembled::Instr(AsmInstr::STR(dr, sr, offset6(word))),
+        8 => {
+            if word == 0x8000 {
+                Disassembled::Instr(AsmInstr::RTI)
+            } else {
+                Disassembled::Nothing
+            }
+        }
+        9 => {
+            if word % 64 == 63 {
+                Disassembled::Instr(AsmInstr::NOT(dr, sr))
+            } else {
+                Disassembled::Nothing
+            }
+        }
+        10 => Disassembled::Instr(AsmInstr::LDI(dr, offset9(word))),
+        11 => Disassembled::Instr(AsmInstr::STI(dr, offset9(word))),
+        12 => decode_jmp(word),
+        13 => Disassembled::Nothing,
+        14 => Disassembled::Instr(AsmInstr::LEA(dr, offset9(word))),
+        _ => decode_trap(word), // 15: four bits hold no more
+    }
+}
+
+// The same, with a fill for every other word.
+pub fn disassemble_line(word: u16) -> Line
+    ensures { λ r. ⌜ meantLine r ≡ line word ⌝ }
+{
+    match try_disassemble_line(word) {
+        Disassembled::Instr(instr) => Line::Instr(instr),
+        Disassembled::Nothing => Line::Fill(word),
+    }
+}
