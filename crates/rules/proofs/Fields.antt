@@ -11,7 +11,7 @@ use borrow.Author.Tests.{lt-ltb, le-ltb, le-leb, lt-leb, leb-true, leb-false, lt
 use Rattle.rules.specs.Base.{if_then_else_}
 use Rattle.rules.specs.Tokens.{Num, plus, minus}
 use Rattle.rules.specs.Statements.{inRange, reduced}
-use Rattle.rules.specs.Words.{Range, signed, unsigned, fits, field, extend}
+use Rattle.rules.specs.Words.{Range, signed, unsigned, offset, fits, field, extend}
 
 -- a test with its answer
 pub by-test : {A : Type 0} (t : Bool) → (t ≡ true → A) → (t ≡ false → A) → A
@@ -133,6 +133,11 @@ module _ (w : ℕ) (ok : Width w) where
   pub field-unsigned : (d : ℕ) → fits (unsigned w) d ≡ true → field (unsigned w) d ≡ d
   unfolding field
   field-unsigned d e = mod-eq-of-lt (below-unsigned d e)
+
+-- from the address after the instruction, a label's offset leads to the label
+pub offset-leads : (label next : ℕ) → label < 65536 → next < 65536 → (next + offset label next) % 65536 ≡ label
+unfolding offset
+offset-leads label next l n = omega arith
 
 -- a whole number that is read, modulo 65536
 pub sixteen : Num → ℕ
