@@ -91,23 +91,23 @@ module _ (w f s : ℕ) (low : Encoded) where
 pub no-wrap : (w b : ℕ) (low : Encoded) → w + size low ≤ 61503 → low ≡ Bits b → w + b ≤ 61503
 no-wrap w b low h e = omega (arith, ap size e)
 
--- room for the two registers above the low bits
-pub room : (w : ℕ) (r : Range) (e : Encoded) (d : ℕ) → 0 < r .modulus → w + r .modulus ≤ 61504 → e ≡ encoded (bits (num r) (value d)) → w + size e ≤ 61503
-room w r e d p l q = omega (arith, ap size q, below r d p)
+-- a field leaves room for the two registers above it
+pub small : (l h m : ℕ) (e : Encoded) (d : ℕ) → 0 < m → e ≡ encoded (bits (num (range l h m)) (value d)) → size e < m
+small l h m e d p q = omega (arith, ap size q, below (range l h m) d p)
 
-of-last : (w : ℕ) (e : Encoded) (o : ImmOrReg) → w ≤ 61440 → e ≡ encoded (bits regOrImm (operandOf o)) → w + size e ≤ 61503
+of-last : (e : Encoded) (o : ImmOrReg) → e ≡ encoded (bits regOrImm (operandOf o)) → size e < 64
 unfolding bits field if_then_else_
-of-last w e (Imm d) l q =
+of-last e (Imm d) q =
     by-test (fits (signed 5) d)
     (λ t. let h : size e ≡ 32 + d % 32 = ap size q ∙ rw t in omega (arith, mod-lt d {m = 32} (omega arith)))
     (λ t. let h : size e ≡ 0 = ap size q ∙ rw t in omega arith)
-of-last w e (Reg r) l q =
+of-last e (Reg r) q =
     by-test (leb r 7)
     (λ t. let h : size e ≡ r = ap size q ∙ rw t in omega (arith, leb-true r 7 t))
     (λ t. let h : size e ≡ 0 = ap size q ∙ rw t in omega arith)
 
-pub room-last : (w : ℕ) (K : ℕ → ℕ → ImmOrReg → AsmInstr) (i : AsmInstr) (e : Encoded) (d s : ℕ) (o : ImmOrReg) → w ≤ 61440 → i ≡ K d s o → e ≡ encoded (bits regOrImm (operandOf o)) → w + size e ≤ 61503
-room-last w K i e d s o l p q = of-last w e o l q
+pub small-last : (K : ℕ → ℕ → ImmOrReg → AsmInstr) (i : AsmInstr) (e : Encoded) (d s : ℕ) (o : ImmOrReg) → i ≡ K d s o → e ≡ encoded (bits regOrImm (operandOf o)) → size e < 64
+small-last K i e d s o p q = of-last e o q
 
 -- a trap
 pub trap-in : (v : ℕ) → v ≤ 255 → Bits (0xf000 + v) ≡ encoded (some 0xf000 ⊕ bits (num (unsigned 8)) (value v))
