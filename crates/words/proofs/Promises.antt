@@ -2,12 +2,12 @@
 -- Assumes nothing.
 use Prim.Native.Nat.{ℕ}
 use native.Mathlib.Omega.{arith}
-use mathlib.Core.Bool.{Bool}
+use mathlib.Core.Bool.{Bool, true, false}
 use mathlib.Core.Option.{Option, none, some}
 use mathlib.Core.Path.{_≡_, refl, ap, sym, subst, _∙_}
-use Rattle.rules.specs.Base.{Outcome, ok, refuse, nowhere}
+use Rattle.rules.specs.Base.{if_then_else_, Outcome, ok, refuse, nowhere}
 use Rattle.rules.specs.Words as R
-use Rattle.rules.specs.Words.{Range, Instr, word, disassemble, line, reach, Shown}
+use Rattle.rules.specs.Words.{Range, fits, offset, Instr, word, disassemble, line, reach, Shown}
 use Rattle.rules.specs.Statements.{fit}
 use Rattle.rules.proofs.Disassembly.{disassembled-encodes, encoded-shows}
 use Rattle.words.specs.Fields.{encoded, meantBits, meantOffset, whole}
@@ -133,6 +133,15 @@ pub disassemble-encode :
     (w : ℕ) (d : Disassembled) (i : AsmInstr) (r : Encoded) →
     meantIf d ≡ disassemble w → d ≡ D.Instr i → r ≡ encoded (word (meant i)) → r ≡ Bits w
 disassemble-encode w d i r e q p = p ∙ ap encoded (disassembled-encodes w (meant i) (sym e ∙ ap meantIf q))
+
+-- `replace_pc_offset9`, `replace_pc_offset11`: 29 exactly where the offset lies outside the field, and else the offset itself
+pub refused-outside : (f : Range) (label pc : ℕ) (r : Replaced) → meantOffset r ≡ reach f label pc nowhere → fits f (offset label pc) ≡ false → r ≡ OffsetNewErr
+unfolding reach if_then_else_
+refused-outside f label pc r e o = offset-once r OffsetNewErr (e ∙ rw o)
+
+pub accepted-inside : (f : Range) (label pc : ℕ) (r : Replaced) → meantOffset r ≡ reach f label pc nowhere → fits f (offset label pc) ≡ true → r ≡ Offset (offset label pc)
+unfolding reach if_then_else_
+accepted-inside f label pc r e o = offset-once r (Offset (offset label pc)) (e ∙ rw o)
 
 -- two answers that a contract allows are equal: `encode`; `try_disassemble_line`; `disassemble_line`;
 -- `imm5`, `offset6`, `offset9`, `offset11`, `trap8`; `replace_pc_offset9`, `replace_pc_offset11`; `low5` to `low11`

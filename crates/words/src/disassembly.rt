@@ -36,25 +36,25 @@ fn sign_extend(bits: u16, half: u16) -> u16
     }
 }
 
-fn imm5(word: u16) -> u16
+fn imm5_of(word: u16) -> u16
     ensures { λ r. ⌜ r ≡ low 5 word ⌝ }
 {
     sign_extend(word % 32, 16)
 }
 
-fn offset6(word: u16) -> u16
+fn offset6_of(word: u16) -> u16
     ensures { λ r. ⌜ r ≡ low 6 word ⌝ }
 {
     sign_extend(word % 64, 32)
 }
 
-fn offset9(word: u16) -> u16
+fn offset9_of(word: u16) -> u16
     ensures { λ r. ⌜ r ≡ low 9 word ⌝ }
 {
     sign_extend(word % 512, 256)
 }
 
-fn offset11(word: u16) -> u16
+fn offset11_of(word: u16) -> u16
     ensures { λ r. ⌜ r ≡ low 11 word ⌝ }
 {
     sign_extend(word % 2048, 1024)
@@ -64,7 +64,7 @@ fn last_operand(word: u16) -> Last
     ensures { λ r. ⌜ r ≡ lastOf word ⌝ }
 {
     if word / 32 % 2 == 1 {
-        return Last::Operand(ImmOrReg::Imm(imm5(word)));
+        return Last::Operand(ImmOrReg::Imm(imm5_of(word)));
     }
     if word / 8 % 4 == 0 {
         return Last::Operand(ImmOrReg::Reg(word % 8));
@@ -77,7 +77,7 @@ fn decode_jsr(word: u16) -> Disassembled
     ensures { λ r. ⌜ meantIf r ≡ disassemble word ⌝ }
 {
     if word / 2048 % 2 == 1 {
-        return Disassembled::Instr(AsmInstr::JSR(offset11(word)));
+        return Disassembled::Instr(AsmInstr::JSR(offset11_of(word)));
     }
     if word / 512 % 4 == 0 {
         if word % 64 == 0 {
@@ -134,20 +134,20 @@ pub fn try_disassemble_line(word: u16) -> Disassembled
     let sr = word / 64 % 8;
     let opcode = word / 4096;
     match opcode {
-        0 => Disassembled::Instr(AsmInstr::BR(dr, offset9(word))),
+        0 => Disassembled::Instr(AsmInstr::BR(dr, offset9_of(word))),
         1 => match last_operand(word) {
             Last::Operand(o) => Disassembled::Instr(AsmInstr::ADD(dr, sr, o)),
             Last::Malformed => Disassembled::Nothing,
         },
-        2 => Disassembled::Instr(AsmInstr::LD(dr, offset9(word))),
-        3 => Disassembled::Instr(AsmInstr::ST(dr, offset9(word))),
+        2 => Disassembled::Instr(AsmInstr::LD(dr, offset9_of(word))),
+        3 => Disassembled::Instr(AsmInstr::ST(dr, offset9_of(word))),
         4 => decode_jsr(word),
         5 => match last_operand(word) {
             Last::Operand(o) => Disassembled::Instr(AsmInstr::AND(dr, sr, o)),
             Last::Malformed => Disassembled::Nothing,
         },
-        6 => Disassembled::Instr(AsmInstr::LDR(dr, sr, offset6(word))),
-        7 => Disassembled::Instr(AsmInstr::STR(dr, sr, offset6(word))),
+        6 => Disassembled::Instr(AsmInstr::LDR(dr, sr, offset6_of(word))),
+        7 => Disassembled::Instr(AsmInstr::STR(dr, sr, offset6_of(word))),
         8 => {
             if word == 0x8000 {
                 Disassembled::Instr(AsmInstr::RTI)
@@ -162,11 +162,11 @@ pub fn try_disassemble_line(word: u16) -> Disassembled
                 Disassembled::Nothing
             }
         }
-        10 => Disassembled::Instr(AsmInstr::LDI(dr, offset9(word))),
-        11 => Disassembled::Instr(AsmInstr::STI(dr, offset9(word))),
+        10 => Disassembled::Instr(AsmInstr::LDI(dr, offset9_of(word))),
+        11 => Disassembled::Instr(AsmInstr::STI(dr, offset9_of(word))),
         12 => decode_jmp(word),
         13 => Disassembled::Nothing,
-        14 => Disassembled::Instr(AsmInstr::LEA(dr, offset9(word))),
+        14 => Disassembled::Instr(AsmInstr::LEA(dr, offset9_of(word))),
         _ => decode_trap(word), // 15: four bits hold no more
     }
 }
