@@ -36,6 +36,7 @@ fn sign_extend(bits: u16, half: u16) -> u16
     }
 }
 
+// The signed numbers in the low bits of a word.
 fn imm5_of(word: u16) -> u16
     ensures { λ r. ⌜ r ≡ low 5 word ⌝ }
 {
@@ -60,6 +61,7 @@ fn offset11_of(word: u16) -> u16
     sign_extend(word % 2048, 1024)
 }
 
+// A register needs bits 3 and 4 zero.
 fn last_operand(word: u16) -> Last
     ensures { λ r. ⌜ r ≡ lastOf word ⌝ }
 {
@@ -72,6 +74,7 @@ fn last_operand(word: u16) -> Last
     Last::Malformed
 }
 
+// JSR by bit 11, else JSRR with no other bit.
 fn decode_jsr(word: u16) -> Disassembled
     requires { ⌜ word / 4096 ≡ 4 ⌝ }
     ensures { λ r. ⌜ meantIf r ≡ disassemble word ⌝ }
@@ -87,6 +90,7 @@ fn decode_jsr(word: u16) -> Disassembled
     Disassembled::Nothing
 }
 
+// JMP and RET, with no other bit.
 fn decode_jmp(word: u16) -> Disassembled
     requires { ⌜ word / 4096 ≡ 12 ⌝ }
     ensures { λ r. ⌜ meantIf r ≡ disassemble word ⌝ }
@@ -103,6 +107,7 @@ fn decode_jmp(word: u16) -> Disassembled
     Disassembled::Nothing
 }
 
+// A trap by its name, or by its number.
 fn decode_trap(word: u16) -> Disassembled
     requires { ⌜ word / 4096 ≡ 15 ⌝ }
     ensures { λ r. ⌜ meantIf r ≡ disassemble word ⌝ }

@@ -35,30 +35,35 @@ fn number_bits(negative: bool, size: u16, low: u16, high: u16, modulus: u16) -> 
     Encoded::Outside
 }
 
+// From -16 to 15.
 pub fn imm5(negative: bool, size: u16) -> Encoded
     ensures { λ r. ⌜ meantBits r ≡ fit (signed 5) (whole negative size) nowhere ⌝ }
 {
     number_bits(negative, size, 16, 15, 32)
 }
 
+// From -32 to 31.
 pub fn offset6(negative: bool, size: u16) -> Encoded
     ensures { λ r. ⌜ meantBits r ≡ fit (signed 6) (whole negative size) nowhere ⌝ }
 {
     number_bits(negative, size, 32, 31, 64)
 }
 
+// From -256 to 255.
 pub fn offset9(negative: bool, size: u16) -> Encoded
     ensures { λ r. ⌜ meantBits r ≡ fit (signed 9) (whole negative size) nowhere ⌝ }
 {
     number_bits(negative, size, 256, 255, 512)
 }
 
+// From -1024 to 1023.
 pub fn offset11(negative: bool, size: u16) -> Encoded
     ensures { λ r. ⌜ meantBits r ≡ fit (signed 11) (whole negative size) nowhere ⌝ }
 {
     number_bits(negative, size, 1024, 1023, 2048)
 }
 
+// From 0 to 255.
 pub fn trap8(negative: bool, size: u16) -> Encoded
     ensures { λ r. ⌜ meantBits r ≡ fit (unsigned 8) (whole negative size) nowhere ⌝ }
 {
@@ -130,12 +135,14 @@ fn replace_pc_offset(label: u16, pc: u16, least: i32, most: i32) -> Replaced
     Replaced::Offset(d)
 }
 
+// The offset of BR, LD, LDI, LEA, NOP, ST and STI.
 pub fn replace_pc_offset9(label: u16, pc: u16) -> Replaced
     ensures { λ r. ⌜ meantOffset r ≡ reach (signed 9) label pc nowhere ⌝ }
 {
     replace_pc_offset(label, pc, -256, 255)
 }
 
+// The offset of JSR.
 pub fn replace_pc_offset11(label: u16, pc: u16) -> Replaced
     ensures { λ r. ⌜ meantOffset r ≡ reach (signed 11) label pc nowhere ⌝ }
 {
