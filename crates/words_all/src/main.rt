@@ -19,7 +19,7 @@ struct Row {
     last: u16,
 }
 
-// What was counted so far.
+// What is counted so far.
 struct Counts {
     words: u32,
     instructions: u32,
