@@ -348,3 +348,68 @@ encoded-shows PUTS w e = fixed PUTS 0xf022 w refl (itself PUTS) e
 encoded-shows IN w e = fixed IN 0xf023 w refl (itself IN) e
 encoded-shows PUTSP w e = fixed PUTSP 0xf024 w refl (itself PUTSP) e
 encoded-shows HALT w e = fixed HALT 0xf025 w refl (itself HALT) e
+
+-- x21 as PUTC, xC1C0 as RET; fills: another word than its instruction's, every word below x0200, opcode D
+pub named-words : (disassemble 0xf021 ≡ some PUTC) × (disassemble 0xc1c0 ≡ some RET)
+unfolding word made find instructions joined disassemble exactly equals cases if_then_else_
+named-words = (refl, refl)
+
+pub fill-words : (disassemble 0xc8c0 ≡ none) × (disassemble 0x01ff ≡ none) × (disassemble 0xd000 ≡ none)
+unfolding word made find instructions joined bits _⊕_ disassemble exactly equals cases if_then_else_
+fill-words = (refl, refl, refl)
+
+-- an instruction's word is sixteen bits
+constant : (i : Instr) (v w : ℕ) → word i ≡ some v → v < 65536 → word i ≡ some w → w < 65536
+constant i v w p l e = let q : v ≡ w = cc in omega arith
+
+low-word : (b o w : ℕ) → b + 512 ≤ 65536 → joined (some b) (near (signed 9) ∷ []) (value o ∷ []) ≡ some w → w < 65536
+low-word b o w l e = let h = low9 b o w e in omega arith
+
+branch-word : (c o w : ℕ) → word (BR c o) ≡ some w → w < 65536
+unfolding word made find instructions branch if_then_else_
+branch-word zero o w e = low-word 0 o w (omega arith) e
+branch-word (suc zero) o w e = low-word 512 o w (omega arith) e
+branch-word (suc (suc zero)) o w e = low-word 1024 o w (omega arith) e
+branch-word (suc (suc (suc zero))) o w e = low-word 1536 o w (omega arith) e
+branch-word (suc (suc (suc (suc zero)))) o w e = low-word 2048 o w (omega arith) e
+branch-word (suc (suc (suc (suc (suc zero))))) o w e = low-word 2560 o w (omega arith) e
+branch-word (suc (suc (suc (suc (suc (suc zero)))))) o w e = low-word 3072 o w (omega arith) e
+branch-word (suc (suc (suc (suc (suc (suc (suc zero))))))) o w e = low-word 3584 o w (omega arith) e
+branch-word (suc (suc (suc (suc (suc (suc (suc (suc n)))))))) o w e = let z : _≡_ {A = ℕ} 0 1 = cc in absurd (omega arith)
+
+trap-word : (v w : ℕ) → joined (some 0xf000) (num (unsigned 8) ∷ []) (value v ∷ []) ≡ some w → w < 65536
+trap-word v w e =
+    let x = of-num _ _ _ _ (unsigned 8) v e in
+    let s = done _ _ (x .rest) in
+    let ok = wide 8 (omega arith) (omega arith) in
+    let n = field-unsigned 8 ok v (x .holds) in
+    let l : v < 256 = below-unsigned 8 ok v (x .holds) in
+    omega arith
+
+pub word-below : (i : Instr) (w : ℕ) → word i ≡ some w → w < 65536
+unfolding word made find instructions joined if_then_else_
+word-below (ADD d s o) w e = let h = three 1 d s o w e in omega arith
+word-below (AND d s o) w e = let h = three 5 d s o w e in omega arith
+word-below (NOT d s) w e = let h = negation d s w e in omega arith
+word-below (BR nzp o) w e = branch-word nzp o w e
+word-below (JMP b) w e = let h = base 12 b w e in omega arith
+word-below (JSRR b) w e = let h = base 4 b w e in omega arith
+word-below (JSR o) w e = let h = eleven o w e in omega arith
+word-below (NOP o) w e = low-word 0 o w (omega arith) e
+word-below (LD d o) w e = let h = nine 2 d o w e in omega arith
+word-below (LDI d o) w e = let h = nine 10 d o w e in omega arith
+word-below (LEA d o) w e = let h = nine 14 d o w e in omega arith
+word-below (ST s o) w e = let h = nine 3 s o w e in omega arith
+word-below (STI s o) w e = let h = nine 11 s o w e in omega arith
+word-below (LDR d b o) w e = let h = six 6 d b o w e in omega arith
+word-below (STR s b o) w e = let h = six 7 s b o w e in omega arith
+word-below (TRAP v) w e = trap-word v w e
+word-below RET w e = constant RET 0xc1c0 w refl (omega arith) e
+word-below RTI w e = constant RTI 0x8000 w refl (omega arith) e
+word-below GETC w e = constant GETC 0xf020 w refl (omega arith) e
+word-below OUT w e = constant OUT 0xf021 w refl (omega arith) e
+word-below PUTC w e = constant PUTC 0xf021 w refl (omega arith) e
+word-below PUTS w e = constant PUTS 0xf022 w refl (omega arith) e
+word-below IN w e = constant IN 0xf023 w refl (omega arith) e
+word-below PUTSP w e = constant PUTSP 0xf024 w refl (omega arith) e
+word-below HALT w e = constant HALT 0xf025 w refl (omega arith) e
