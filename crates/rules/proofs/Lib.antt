@@ -9,3 +9,4 @@ pub mod Sizes
 pub mod Longest
 pub mod Shown
 pub mod Next
+pub mod Walk
