@@ -6,11 +6,15 @@ use mathlib.Core.List.{List, [], _∷_, _++_}
 use native.Mathlib.Nat.{add-zero}
 use native.Mathlib.Omega.{arith}
 use lib.Dec.{eqb}
-use lib.ListN.{length, getD, length-append}
+use lib.ListN.{length, drop, length-append}
+use lib.Seq.{drop-drop}
 use Rattle.rules.specs.Base.{if_then_else_}
 use Rattle.rules.specs.Tokens.{begins, escape, Quoted, open′, closed, put, quoted, line}
 use Rattle.text.specs.Runs.{from}
-use Rattle.literals.specs.Strings.{lineStops, closes, opens, adds, scan}
+use Rattle.literals.specs.Strings.{lineStops, closes, opens, adds, isEscape, standsFor, scan, firstOf, afterBackslash, charAt}
+use Rattle.literals.specs.declared.StringChar.{StringChar}
+use Rattle.literals.specs.declared.StringChar.the-variants.{Char, Done}
+use Rattle.literals.proofs.StringSteps.{escape-is}
 use Rattle.literals.specs.declared.Scanned.{Scanned}
 use Rattle.literals.specs.declared.Scanned.the-variants.{Closed, Open}
 
@@ -55,3 +59,21 @@ scan-means b n i (c ∷ l) = go (eqb c 10 || (eqb c 13 && begins (λ d. eqb d 10
         ≡ scanned n i (length {A = ℕ} (elim t [ true ↦ [] | false ↦ c ∷ line l ])) (quoted b (elim t [ true ↦ [] | false ↦ c ∷ line l ]))
     go true e = ap Open (sym (add-zero i))
     go false e = e
+
+-- What the character handed out at a place is, where this string stands there: its first character, and at the place of the next the rest of it; or its end.
+abbrev pub Handed : List ℕ → ℕ → Quoted → StringChar → Type 0
+Handed s at open′ r = Unit {0}
+Handed s at (closed [] n) r = r ≡ Done
+Handed s at (closed (x ∷ t) n) r = (next : ℕ) × (m : ℕ) × (r ≡ Char x next) × (at < next) × (quoted false (line (from s next)) ≡ closed t m)
+
+-- what is left of a list that begins so
+pub from-rest : (s : List ℕ) (i : ℕ) (c : ℕ) (l : List ℕ) → from s i ≡ c ∷ l → from s (i + 1) ≡ l
+unfolding from
+from-rest s i c l e = sym (drop-drop 1 i s) ∙ ap (drop 1) e
+
+module _ (s : List ℕ) (at : ℕ) where
+  -- one character that stays
+  kept : (x : ℕ) (q : Quoted) → quoted false (line (from s (at + 1))) ≡ q → Handed s at (put (x ∷ []) q) (Char x (at + 1))
+  unfolding put
+  kept x open′ e = tt
+  kept x (closed u m) e = (at + 1, m, refl, omega arith, e)
