@@ -22,3 +22,4 @@ pub mod Next
 pub mod Walking
 pub mod Ahead
 pub mod Following
+pub mod Walk
