@@ -1,0 +1,2 @@
+-- Laws that the proofs of `lexeme` cite. Assumes nothing.
+pub mod Standing
