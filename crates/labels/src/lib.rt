@@ -1,9 +1,7 @@
 // What stands before a statement's instruction or directive: newlines, and labels each with an optional colon.
-use lex::next_token;
-use reserved::Ident;
-use token::Next;
-use token::Token;
+use lexeme::next_lexeme;
 ghost use mathlib.Core.Path.{_≡_};
+ghost use Prim.Native.Nat.{_-_};
 ghost use Rattle.rules.specs.Statements.{pastColon, pastLines};
 ghost use Rattle.labels.specs.Walk.{afterLine, labelHere, labelFrom, Walked};
 
@@ -33,44 +31,22 @@ pub struct Walk {
 fn after_line(src: &[u8], at: usize) -> usize
     ensures { λ r. ⌜ r ≡ afterLine (now (src .entry)) at ⌝ }
 {
-    match next_token(src, at) {
-        Next::Took {
-            token,
-            start: _,
-            end,
-        } => match token {
-            Token::NewLine => end,
-            _ => at,
-        },
-        Next::End(_) => at,
-        Next::Refused {
-            number: _,
-            start: _,
-            end: _,
-        } => at,
+    let t = next_lexeme(src, at);
+    if t.sort == 9 {
+        return t.end;
     }
+    at
 }
 
 // Past an optional colon.
 fn past_colon(src: &[u8], at: usize) -> usize
     ensures { λ r. ⌜ r ≡ pastColon (now (src .entry)) at ⌝ }
 {
-    match next_token(src, at) {
-        Next::Took {
-            token,
-            start: _,
-            end,
-        } => match token {
-            Token::Colon => end,
-            _ => at,
-        },
-        Next::End(_) => at,
-        Next::Refused {
-            number: _,
-            start: _,
-            end: _,
-        } => at,
+    let t = next_lexeme(src, at);
+    if t.sort == 7 {
+        return t.end;
     }
+    at
 }
 
 // Past any newlines.
@@ -86,4 +62,45 @@ pub fn past_lines(src: &[u8], at: usize) -> usize
         i = next;
     }
     i
+}
+
+// How far the end is from the start.
+fn gap(start: usize, end: usize) -> usize
+    ensures { λ r. ⌜ r ≡ end - start ⌝ }
+{
+    if start <= end {
+        return end - start;
+    }
+    0
+}
+
+// The label token at a place.
+fn label_here(src: &[u8], at: usize) -> Label
+    ensures { λ r. ⌜ r ≡ labelHere (now (src .entry)) at ⌝ }
+{
+    let t = next_lexeme(src, at);
+    if t.sort == 3 {
+        let start = t.start;
+        let end = t.end;
+        if gap(start, end) <= 64 {
+            return Label::At { start, end };
+        }
+        return Label::Nothing;
+    }
+    Label::Nothing
+}
+
+// The first label from a place on, past newlines, and where to look for the next.
+pub fn next_label(src: &[u8], at: usize) -> NextLabel
+    ensures { λ r. ⌜ r ≡ labelFrom (now (src .entry)) at ⌝ }
+{
+    let place = past_lines(src, at);
+    match label_here(src, place) {
+        Label::At { start, end } => NextLabel::Label {
+            start,
+            end,
+            next: past_colon(src, end),
+        },
+        Label::Nothing => NextLabel::Done,
+    }
 }

@@ -1,0 +1,2 @@
+-- Laws that the proofs of `labels` cite. Assumes nothing.
+pub mod Walking
