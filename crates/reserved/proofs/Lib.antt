@@ -1,0 +1,3 @@
+-- Laws of the table of reserved words. Assumes nothing.
+pub mod Rows
+pub mod Rule

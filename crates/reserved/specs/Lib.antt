@@ -1,0 +1,3 @@
+-- What the contracts of `reserved` cite. Assumes nothing.
+pub mod Ident
+pub mod Table

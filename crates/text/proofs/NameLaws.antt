@@ -1,0 +1,99 @@
+-- Two names, one byte on. Assumes nothing.
+use Prim.Native.Nat.{ℕ, suc, _+_, _<_, _≤_}
+use mathlib.Core.Path.{_≡_, refl, sym, _∙_, ap}
+use mathlib.Core.Bool.{Bool, true, false, _&&_}
+use mathlib.Core.List.{List, [], _∷_, map}
+use lib.Dec.{eqb}
+use native.Mathlib.Omega.{arith}
+use lib.ListN.{length, getD}
+use borrow.Author.Tests.{lt-ltb, le-ltb, eq-eqb, ne-eqb}
+use Rattle.rules.specs.Base.{if_then_else_, same}
+use Rattle.rules.specs.Tokens.{upper}
+use Rattle.text.specs.Runs.{from}
+use Rattle.text.specs.Names.{ordered}
+use Rattle.text.specs.declared.Order.{Order}
+use Rattle.text.specs.declared.Order.the-variants.{Less, Same, Greater}
+use Rattle.text.proofs.Rest.{from-step, from-end}
+
+-- upper case of what is left
+abbrev pub upFrom : List ℕ → ℕ → List ℕ
+upFrom s i = map upper (from s i)
+
+module _ (a b : List ℕ) (i : ℕ) where
+  module _ {x y : ℕ} (h : i < length a) (k : i < length b) (p : x ≡ upper (getD a i 0)) (q : y ≡ upper (getD b i 0)) where
+    pub same-go : x ≡ y → same (upFrom a i) (upFrom b i) ≡ same (upFrom a (i + 1)) (upFrom b (i + 1))
+    same-go e = rw (from-step a i h, from-step b i k, ← p, ← q, eq-eqb x y e)
+
+    pub same-stop : (x ≡ y → ⊥) → same (upFrom a i) (upFrom b i) ≡ false
+    same-stop n = rw (from-step a i h, from-step b i k, ← p, ← q, ne-eqb x y n)
+
+    pub order-less : x < y → ordered (upFrom a i) (upFrom b i) ≡ Less
+    unfolding ordered if_then_else_
+    order-less l = rw (from-step a i h, from-step b i k, ← p, ← q, lt-ltb x y l)
+
+    pub order-greater : y < x → y ≤ x → ordered (upFrom a i) (upFrom b i) ≡ Greater
+    unfolding ordered if_then_else_
+    order-greater l m = rw (from-step a i h, from-step b i k, ← p, ← q, le-ltb x y m, lt-ltb y x l)
+
+    pub order-go : x ≤ y → y ≤ x → ordered (upFrom a i) (upFrom b i) ≡ ordered (upFrom a (i + 1)) (upFrom b (i + 1))
+    unfolding ordered if_then_else_
+    order-go l m = rw (from-step a i h, from-step b i k, ← p, ← q, le-ltb x y m, le-ltb y x l)
+
+  pub same-end : length a ≤ i → length b ≤ i → same (upFrom a i) (upFrom b i) ≡ true
+  same-end h k = rw (from-end a i h, from-end b i k)
+
+  pub order-short : length a ≤ i → i < length b → ordered (upFrom a i) (upFrom b i) ≡ Less
+  unfolding ordered
+  order-short h k = rw (from-end a i h, from-step b i k)
+
+  pub order-long : i < length a → length b ≤ i → ordered (upFrom a i) (upFrom b i) ≡ Greater
+  unfolding ordered
+  order-long h k = rw (from-step a i h, from-end b i k)
+
+  pub order-end : length a ≤ i → length b ≤ i → ordered (upFrom a i) (upFrom b i) ≡ Same
+  unfolding ordered
+  order-end h k = rw (from-end a i h, from-end b i k)
+
+-- names of different lengths are not the same
+pub same-lengths : (a b : List ℕ) → (length a ≡ length b → ⊥) → same (map upper a) (map upper b) ≡ false
+same-lengths [] [] n = absurd (n refl)
+same-lengths [] (y ∷ ys) n = refl
+same-lengths (x ∷ xs) [] n = refl
+same-lengths (x ∷ xs) (y ∷ ys) n = both (eqb (upper x) (upper y)) (same-lengths xs ys (λ e. n (ap suc e)))
+  where
+    both : (t : Bool) → same (map upper xs) (map upper ys) ≡ false → (t && same (map upper xs) (map upper ys)) ≡ false
+    both true e = e
+    both false e = refl
+
+-- as the loops meet them
+module _ (a b : List ℕ) {i : ℕ} {x y : ℕ} (p : x ≡ upper (getD a i 0)) (q : y ≡ upper (getD b i 0)) (h : i < length a) where
+  module _ {z : Bool} (n : length a ≡ length b) (g : same (upFrom a i) (upFrom b i) ≡ z) where
+    pub same-again : x ≡ y → same (upFrom a (i + 1)) (upFrom b (i + 1)) ≡ z
+    same-again e = sym (same-go a b i h (omega arith) p q e) ∙ g
+
+    pub same-differs : (x ≡ y → ⊥) → false ≡ z
+    same-differs e = sym (same-stop a b i h (omega arith) p q e) ∙ g
+
+  module _ {z : Order} (k : i < length b) (g : ordered (upFrom a i) (upFrom b i) ≡ z) where
+    pub less-met : x < y → Less ≡ z
+    less-met l = sym (order-less a b i h k p q l) ∙ g
+
+    pub greater-met : y < x → Greater ≡ z
+    greater-met l = sym (order-greater a b i h k p q l (omega arith)) ∙ g
+
+    pub order-again : y ≤ x → x ≤ y → ordered (upFrom a (i + 1)) (upFrom b (i + 1)) ≡ z
+    order-again l m = sym (order-go a b i h k p q m l) ∙ g
+
+module _ (a b : List ℕ) {i : ℕ} where
+  pub same-done : {z : Bool} → length a ≡ length b → length a ≤ i → same (upFrom a i) (upFrom b i) ≡ z → true ≡ z
+  same-done n h g = sym (same-end a b i h (omega arith)) ∙ g
+
+  module _ {z : Order} (g : ordered (upFrom a i) (upFrom b i) ≡ z) where
+    pub short-met : length a ≤ i → i < length b → Less ≡ z
+    short-met h k = sym (order-short a b i h k) ∙ g
+
+    pub long-met : i < length a → length b ≤ i → Greater ≡ z
+    long-met h k = sym (order-long a b i h k) ∙ g
+
+    pub same-met : length a ≤ i → length b ≤ i → Same ≡ z
+    same-met h k = sym (order-end a b i h k) ∙ g

@@ -1,0 +1,13 @@
+use mathlib.Core.Path.{sym}
+use lib.ListN.{List·getD-eq-default}
+use borrow.Author.Needs.{needs}
+use Rattle.text.proofs.byte_at.Statement.{statement}
+use Rattle.text.proofs.byte_at.Tie as tie
+
+pub byte-at-spec : {M : Type 1} → statement M
+byte-at-spec =
+    tie.close
+    (tie.spec
+    (λ c. search needs)
+    (λ c. search needs)
+    (λ c. sym (List·getD-eq-default (c .before .args .src .now) 0 (c .if1 .left))))

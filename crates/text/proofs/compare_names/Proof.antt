@@ -1,0 +1,37 @@
+use Prim.Native.Nat.{_-_}
+use mathlib.Core.Path.{_≡_}
+use mathlib.Core.List.{map}
+use lib.ListN.{length}
+use Rattle.rules.specs.Tokens.{upper}
+use Rattle.text.specs.Names.{ordered}
+use Rattle.text.proofs.Rest.{from-start}
+use Rattle.text.proofs.NameLaws.{upFrom, less-met, greater-met, order-again, short-met, long-met, same-met}
+use borrow.Author.Needs.{needs}
+use Rattle.text.proofs.compare_names.Statement.{statement}
+use Rattle.text.proofs.compare_names.Tie as tie
+
+abbrev Inv-loop : tie.InvT-loop
+Inv-loop a b i₀ i = ordered (upFrom a i) (upFrom b i) ≡ ordered (map upper a) (map upper b)
+
+abbrev μ-loop : tie.MeasureT-loop
+μ-loop a b i₀ i = length a - i
+
+pub compare-names-spec : {M : Type 1} → statement M
+compare-names-spec =
+    tie.close
+    (tie.spec
+    Inv-loop
+    μ-loop
+    (λ c. simp from-start)
+    (λ c. search (needs, long-met))
+    (λ c. search needs)
+    (λ c κs. search needs)
+    (λ c. search needs)
+    (λ c κs. search needs)
+    (λ c. search (needs, less-met))
+    (λ c. search (needs, greater-met))
+    (λ c. search needs)
+    (λ c. search needs)
+    (λ c. order-again _ _ (c .before .before .before .before .upper-case .ensures) (c .before .before .upper-case2 .ensures) (c .before .before .before .before .before .before .before .loop-test .taken) (c .before .before .before .before .before .before .if1 .left) (c .before .before .before .before .before .before .before .before .loop .inv) (c .before .if2 .left) (c .if3 .left))
+    (λ c. search (needs, same-met))
+    (λ c. search (needs, short-met)))

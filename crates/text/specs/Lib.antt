@@ -1,0 +1,3 @@
+-- What the contracts of `text` cite beside the rules. Assumes nothing.
+pub mod Runs
+pub mod Names

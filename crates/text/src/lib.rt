@@ -1,0 +1,169 @@
+// Bytes of a source: their classes, upper case, the value of a digit, runs of a class, and names compared.
+ghost use mathlib.Core.Path.{_≡_};
+ghost use mathlib.Core.List.{map};
+ghost use lib.ListN.{getD};
+ghost use Rattle.rules.specs.Base.{same};
+ghost use Rattle.rules.specs.Tokens.{digit, letter, wordy, space, upper, value};
+ghost use Rattle.text.specs.Runs.{inClass, runEnd};
+ghost use Rattle.text.specs.Names.{ordered};
+
+// 0 to 9.
+pub fn is_digit(b: u8) -> bool
+    ensures { λ r. ⌜ r ≡ digit b ⌝ }
+{
+    (48 <= b) & (b <= 57)
+}
+
+// A to Z, a to z and the underscore.
+pub fn is_letter(b: u8) -> bool
+    ensures { λ r. ⌜ r ≡ letter b ⌝ }
+{
+    ((65 <= b) & (b <= 90)) | ((97 <= b) & (b <= 122)) | (b == 95)
+}
+
+// A digit or a letter.
+pub fn is_word(b: u8) -> bool
+    ensures { λ r. ⌜ r ≡ wordy b ⌝ }
+{
+    is_digit(b) | is_letter(b)
+}
+
+// A space or a tab.
+pub fn is_space(b: u8) -> bool
+    ensures { λ r. ⌜ r ≡ space b ⌝ }
+{
+    (b == 32) | (b == 9)
+}
+
+pub fn upper_case(b: u8) -> u8
+    ensures { λ r. ⌜ r ≡ upper b ⌝ }
+{
+    if b < 97 {
+        return b;
+    }
+    if b <= 122 {
+        return b - 32;
+    }
+    b
+}
+
+// The value of a digit up to F; 99 of any other byte.
+pub fn digit_value(b: u8) -> u8
+    ensures { λ r. ⌜ r ≡ value b ⌝ }
+{
+    if b < 48 {
+        return 99;
+    }
+    if b <= 57 {
+        return b - 48;
+    }
+    if b < 65 {
+        return 99;
+    }
+    if b <= 70 {
+        return b - 55;
+    }
+    if b < 97 {
+        return 99;
+    }
+    if b <= 102 {
+        return b - 87;
+    }
+    99
+}
+
+// The classes of which a source has runs; Line is every byte but the line feed.
+pub enum Class {
+    Word,
+    Digit,
+    Space,
+    Hash,
+    Line,
+    Ascii,
+}
+
+pub fn in_class(class: Class, b: u8) -> bool
+    ensures { λ r. ⌜ r ≡ inClass class b ⌝ }
+{
+    match class {
+        Class::Word => is_word(b),
+        Class::Digit => is_digit(b),
+        Class::Space => is_space(b),
+        Class::Hash => b == 35,
+        Class::Line => !(b == 10),
+        Class::Ascii => b < 128,
+    }
+}
+
+// Where the longest run of bytes of the class from `at` ends.
+pub fn run_end(src: &[u8], at: usize, class: Class) -> usize
+    ensures { λ r. ⌜ r ≡ runEnd class (now (src .entry)) at ⌝ }
+{
+    let mut i = at;
+    while i < src.len() {
+        if in_class(class, src[i]) {
+            i += 1;
+        } else {
+            return i;
+        }
+    }
+    i
+}
+
+// The byte at i; 0 past the end.
+pub fn byte_at(src: &[u8], i: usize) -> u8
+    ensures { λ r. ⌜ r ≡ getD (now (src .entry)) i 0 ⌝ }
+{
+    if i < src.len() { src[i] } else { 0 }
+}
+
+// Two names are the same in upper case.
+pub fn same_name(a: &[u8], b: &[u8]) -> bool
+    ensures { λ r. ⌜ r ≡ same (map upper (now (a .entry))) (map upper (now (b .entry))) ⌝ }
+{
+    if a.len() == b.len() {
+        let mut i = 0;
+        while i < a.len() {
+            if upper_case(a[i]) == upper_case(b[i]) {
+                i += 1;
+            } else {
+                return false;
+            }
+        }
+        return true;
+    }
+    false
+}
+
+// How two names stand to each other.
+pub enum Order {
+    Less,
+    Same,
+    Greater,
+}
+
+// Two names in upper case, bytewise; a name goes before a longer one that it begins.
+pub fn compare_names(a: &[u8], b: &[u8]) -> Order
+    ensures { λ r. ⌜ r ≡ ordered (map upper (now (a .entry))) (map upper (now (b .entry))) ⌝ }
+{
+    let mut i = 0;
+    while i < a.len() {
+        if b.len() <= i {
+            return Order::Greater;
+        }
+        let x = upper_case(a[i]);
+        let y = upper_case(b[i]);
+        if x < y {
+            return Order::Less;
+        }
+        if y < x {
+            return Order::Greater;
+        }
+        i += 1;
+    }
+    if b.len() <= i {
+        Order::Same
+    } else {
+        Order::Less
+    }
+}
