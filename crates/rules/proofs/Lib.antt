@@ -15,5 +15,10 @@ pub mod Longest
 pub mod Tables
 pub mod Rows
 pub mod Laid
+pub mod Runs
+pub mod Chains
+pub mod Sound
+pub mod Fits
+pub mod Plain
 pub mod Fields
 pub mod Disassembly
