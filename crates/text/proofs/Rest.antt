@@ -1,13 +1,15 @@
 -- What is left of a list, one place on, and the tests that a definition goes by. Assumes nothing.
 use Prim.Native.Nat.{ℕ, zero, suc, _+_, _<_, _≤_, suc-le-suc, zero-le}
-use mathlib.Core.Path.{_≡_, refl}
+use mathlib.Core.Path.{_≡_, refl, sym}
+use mathlib.Core.Bool.{Bool, false}
 use mathlib.Core.List.{List, [], _∷_}
 use native.Mathlib.Nat.{not-suc-le-zero}
 use native.Mathlib.Numerals.{add-one}
 use borrow.Author.Tests.{lt-ltb, le-ltb, le-leb, lt-leb, eq-eqb, ne-eqb}
 use borrow.Author.Needs.{needs}
-use lib.ListN.{length, getD, drop, drop-of-length-le, length-drop}
-use lib.Seq.{drop-cons, drop-drop}
+use lib.ListN.{length, getD, drop, drop-of-length-le}
+use lib.Seq.{drop-cons}
+use Rattle.rules.specs.Tokens.{begins}
 use Rattle.text.specs.Runs.{from}
 
 module _ {A : Type 0} where
@@ -31,5 +33,20 @@ pub inside : (s : List ℕ) (i : ℕ) → 0 < getD s i 0 → i < length s
 inside [] i h = absurd (not-suc-le-zero h)
 inside (x ∷ s) zero h = suc-le-suc zero-le
 inside (x ∷ s) (suc i) h = suc-le-suc (inside s i h)
+
+-- the first byte of what is left
+pub begins-at : (p : ℕ → Bool) → p 0 ≡ false → (s : List ℕ) (i : ℕ) → begins p (from s i) ≡ p (getD s i 0)
+unfolding begins from
+begins-at p e [] zero = sym e
+begins-at p e [] (suc i) = sym e
+begins-at p e (x ∷ s) zero = refl
+begins-at p e (x ∷ s) (suc i) = begins-at p e s i
+
+pub first-at : (s : List ℕ) (i : ℕ) → getD (from s i) 0 0 ≡ getD s i 0
+unfolding from
+first-at [] zero = refl
+first-at [] (suc i) = refl
+first-at (x ∷ s) zero = refl
+first-at (x ∷ s) (suc i) = first-at s i
 
 pub ruleset tests = (needs, lt-ltb, le-ltb, le-leb, lt-leb, eq-eqb, ne-eqb)

@@ -1,0 +1,3 @@
+-- Laws of numbers and strings, one byte on. Assumes nothing.
+pub mod NumberSteps
+pub mod StringSteps

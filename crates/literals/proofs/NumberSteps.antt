@@ -1,0 +1,39 @@
+-- A number's reading, one character on, as the loop meets it. Assumes nothing.
+use Prim.Native.Nat.{ℕ, _+_, _*_, _<_, _≤_}
+use mathlib.Core.Path.{_≡_, refl, sym, _∙_, ap}
+use mathlib.Core.Bool.{Bool, true, false}
+use mathlib.Core.List.{List, [], _∷_}
+use native.Mathlib.Nat.{mul-le-mul}
+use borrow.Author.Tests.{lt-ltb, le-ltb, le-leb, lt-leb}
+use lib.ListN.{length, getD}
+use Rattle.rules.specs.Base.{if_then_else_}
+use Rattle.rules.specs.Tokens.{wordy, value}
+use Rattle.text.specs.Runs.{from}
+use Rattle.text.proofs.Rest.{from-step, from-end}
+use Rattle.literals.specs.Numbers.{stopped, numberFrom}
+use Rattle.literals.specs.declared.Reading.{Reading}
+use Rattle.literals.specs.declared.Reading.the-variants.{Good, Empty, Wrong, Over}
+
+pub scaled : (a r : ℕ) → a ≤ 65535 → r ≤ 16 → a * r ≤ 1048560
+scaled a r h k = mul-le-mul h k
+
+module _ (base bound at n : ℕ) (s : List ℕ) {i v : ℕ} {z : Reading} (h : i < length s) (e : v ≡ value (getD s i 0)) (g : numberFrom base bound at i n (from s i) ≡ z) where
+  pub wrong-met : {t : Bool} → base ≤ v → t ≡ wordy (getD s i 0) → t ≡ true → Wrong i ≡ z
+  unfolding numberFrom if_then_else_
+  wrong-met b w t = sym (rw (from-step s i h, ← e, le-leb _ _ b, ← w, t)) ∙ g
+
+  pub ends-met : {t : Bool} {r : Reading} → base ≤ v → t ≡ wordy (getD s i 0) → t ≡ false → r ≡ stopped at i n → r ≡ z
+  unfolding numberFrom if_then_else_
+  ends-met b w t r = r ∙ sym (rw (from-step s i h, ← e, le-leb _ _ b, ← w, t)) ∙ g
+
+  pub over-met : v < base → bound < n * base + v → Over i ≡ z
+  unfolding numberFrom if_then_else_
+  over-met b o = sym (rw (from-step s i h, ← e, lt-leb _ _ b, lt-ltb _ _ o)) ∙ g
+
+  pub number-again : v < base → n * base + v ≤ bound → numberFrom base bound at (i + 1) (n * base + v) (from s (i + 1)) ≡ z
+  unfolding numberFrom if_then_else_
+  number-again b o = sym (rw (from-step s i h, ← e, lt-leb _ _ b, le-ltb _ _ o)) ∙ g
+
+pub number-done : (base bound at n : ℕ) (s : List ℕ) {i : ℕ} {r z : Reading} → length s ≤ i → numberFrom base bound at i n (from s i) ≡ z → r ≡ stopped at i n → r ≡ z
+unfolding numberFrom
+number-done base bound at n s {i} h g r = r ∙ sym (rw (from-end s i h)) ∙ g

@@ -1,0 +1,15 @@
+use mathlib.Core.Path.{refl}
+use Rattle.literals.specs.Strings.{isEscape}
+use borrow.Author.Needs.{needs}
+use Rattle.literals.proofs.is_escape.Statement.{statement}
+use Rattle.literals.proofs.is_escape.Tie as tie
+
+returns : tie.Need-returns
+unfolding isEscape
+returns c = refl
+
+pub is-escape-spec : {M : Type 1} → statement M
+is-escape-spec =
+    tie.close
+    (tie.spec
+    returns)

@@ -1,0 +1,3 @@
+-- What the contracts of `literals` cite beside the rules. Assumes nothing.
+pub mod Numbers
+pub mod Strings
