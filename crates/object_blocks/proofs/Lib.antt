@@ -1,0 +1,4 @@
+pub mod Spots
+pub mod Seeking
+pub mod Blocks
+pub mod Words
