@@ -1,0 +1,2 @@
+-- What the contracts of `lex` cite beside the rules. Assumes nothing.
+pub mod Ways
