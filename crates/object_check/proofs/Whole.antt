@@ -1,0 +1,47 @@
+-- The four checks together. Assumes nothing.
+use mathlib.Core.Path.{_≡_, refl}
+use mathlib.Core.Bool.{Bool, true, false}
+use mathlib.Core.List.{List}
+use Prim.Native.Nat.{ℕ}
+use Rattle.rules.specs.Base.{Outcome, ok}
+use Rattle.rules.specs.Objects.{Counts}
+use Rattle.rules.specs.Buffers.{Buffers, short, BlocksOk, WordsOk, LabelsOk, RelocsOk, Valid}
+use Rattle.object.specs.Decides.{Decides, decides-yes, decides-no}
+use Rattle.object.specs.Lent.{Lent, too-short, bad-object, on-object}
+use Rattle.object_relocations.specs.Ground.{Ground}
+use Rattle.object_check.specs.Checked.{outcome}
+use Rattle.object_check.specs.declared.Checked.the-variants.{Object, ShortBuffer, BadObject}
+
+module _ {c : Counts} {b : Buffers} {r : Bool} where
+  pub no-blocks : Decides (BlocksOk (c .blocks) (c .words) (b .blocks)) r → r ≡ false → Decides (Valid c b) false
+  no-blocks d e = decides-no (λ v. d .no e (v .blocks))
+
+  pub no-words : Decides (WordsOk (c .words) (b .words) (b .marks)) r → r ≡ false → Decides (Valid c b) false
+  no-words d e = decides-no (λ v. d .no e (v .words))
+
+  pub no-labels : Decides (LabelsOk (c .labels) (b .labels) (b .names)) r → r ≡ false → Decides (Valid c b) false
+  no-labels d e = decides-no (λ v. d .no e (v .labels))
+
+  pub all-but : {s t u : Bool} → Decides (BlocksOk (c .blocks) (c .words) (b .blocks)) r → r ≡ true → Decides (WordsOk (c .words) (b .words) (b .marks)) s → s ≡ true
+      → Decides (LabelsOk (c .labels) (b .labels) (b .names)) t → t ≡ true
+      → Decides (RelocsOk (c .relocs) (c .blocks) (c .words) (c .labels) (b .blocks) (b .words) (b .marks) (b .labels) (b .relocs)) u → Decides (Valid c b) u
+  all-but p x q y l z d = record {
+    yes = λ e. record { blocks = p .yes x; words = q .yes y; labels = l .yes z; relocs = d .yes e };
+    no = λ e v. d .no e (v .relocs);
+  }
+
+pub grounds : {nb w m : ℕ} {bs ws ms ls ns : List ℕ} {r s t : Bool} → Decides (BlocksOk nb w bs) r → r ≡ true → Decides (WordsOk w ws ms) s → s ≡ true
+    → Decides (LabelsOk m ls ns) t → t ≡ true → Ground nb w m bs ws ms ls
+grounds p x q y l z = record { blocks = p .yes x; words = q .yes y; labels = l .yes z .room }
+
+-- 42, then 43
+module _ (c : Counts) (b : Buffers) {t : Bool} (e : t ≡ short b) where
+  pub is-short : t ≡ true → Lent c b (ok tt) (outcome ShortBuffer)
+  is-short q = too-short (rw e at q) refl
+
+  module _ {r : Bool} (d : Decides (Valid c b) r) (n : t ≡ false) where
+    pub is-good : r ≡ true → Lent c b (ok tt) (outcome Object)
+    is-good q = on-object (rw e at n) (d .yes q) refl
+
+    pub is-bad : r ≡ false → Lent c b (ok tt) (outcome BadObject)
+    is-bad q = bad-object (rw e at n) (d .no q) refl
