@@ -15,7 +15,7 @@ outcome ShortBuffer = refuse 42 nowhere
 outcome BadObject = refuse 43 nowhere
 
 -- the number of an outcome, 0 where it is accepted
-abbrev numberOf : Outcome (Unit {0}) → ℕ
+abbrev pub numberOf : Outcome (Unit {0}) → ℕ
 numberOf (ok a) = 0
 numberOf (refused r) = r .number
 
