@@ -2,7 +2,8 @@
 ghost use mathlib.Core.Path.{_≡_};
 ghost use Prim.Native.Nat.{_+_, _*_, _≤_};
 ghost use lib.ListN.{length, getD};
-ghost use Rattle.rules.specs.Tables.{look, nameOrder};
+ghost use Rattle.rules.specs.Tables.{look, mapT, nameOrder};
+ghost use Rattle.label_layout.specs.Laying.{LabelRoom, LaidLabels};
 ghost use Rattle.object.specs.Slots.{Slotted};
 ghost use Rattle.symbols.specs.Symbols.{symbols, Growing, InsertAt, Inserted, nameFrom};
 ghost use Rattle.symbols.specs.Adding.{found, Ready, Adding};
@@ -103,4 +104,12 @@ pub fn add_symbol(
             Added::Held(n + 1)
         }
     }
+}
+
+// The table as an object's labels, in the one layout: names in upper case, one after another, in the order of the rows.
+pub fn lay_symbols(rows: &[u32], src: &[u8], n: usize, labels: &mut [u32], names: &mut [u8])
+    requires { ⌜ Growing (now rows) (now src) n × LabelRoom n (now labels) (now names) ⌝ }
+    ensures { λ _. ⌜ LaidLabels (mapT (λ m s. s .lab) (symbols n (now (rows .entry)) (now (src .entry)))) (now (labels .entry)) (now (names .entry)) (now (labels .exit)) (now (names .exit)) ⌝ }
+{
+    label_layout::lay_labels(rows, src, n, labels, names);
 }
