@@ -12,9 +12,17 @@ pub mod Heads
 pub mod FirstByte
 pub mod Reading
 pub mod Longest
+pub mod Shown
+pub mod Next
 pub mod Tables
 pub mod Rows
 pub mod Laid
+pub mod Runs
+pub mod Chains
+pub mod Sound
+pub mod Fits
+pub mod Plain
+pub mod Named
 pub mod Fields
 pub mod Disassembly
 pub mod Shown
