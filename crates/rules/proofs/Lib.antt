@@ -25,8 +25,6 @@ pub mod Plain
 pub mod Named
 pub mod Fields
 pub mod Disassembly
-pub mod Shown
-pub mod Next
 pub mod Walking
 pub mod Ahead
 pub mod Following
