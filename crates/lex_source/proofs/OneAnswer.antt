@@ -4,7 +4,7 @@ use mathlib.Core.Path.{_≡_, refl, sym, _∙_, ap}
 use mathlib.Core.Bool.{Bool, false}
 use mathlib.Core.List.{List, map}
 use native.Mathlib.Omega.{arith}
-use lib.ListN.{length, getD}
+use lib.ListN.{getD}
 use Rattle.rules.specs.Base.{Outcome, ok, refused, Refusal, same}
 use Rattle.rules.specs.Tokens.{digit, letter, wordy, space, upper, value, Match, nextToken, lexed}
 use Rattle.rules.proofs.Walk.{verdict}

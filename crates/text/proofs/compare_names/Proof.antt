@@ -1,3 +1,4 @@
+-- `text::compare_names` meets its contract. Assumes nothing.
 use Prim.Native.Nat.{_-_}
 use mathlib.Core.Path.{_≡_}
 use mathlib.Core.List.{map}

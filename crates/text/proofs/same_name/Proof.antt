@@ -1,3 +1,4 @@
+-- `text::same_name` meets its contract. Assumes nothing.
 use Prim.Native.Nat.{_-_}
 use mathlib.Core.Path.{_≡_, sym}
 use mathlib.Core.List.{map}
