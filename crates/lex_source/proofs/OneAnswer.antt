@@ -68,6 +68,9 @@ module _ (a b : List ℕ) where
   pub compare-names-one : {r r′ : Order} → r ≡ ordered (map upper a) (map upper b) → r′ ≡ ordered (map upper a) (map upper b) → r ≡ r′
   compare-names-one = one
 
+  pub compare-bytes-one : {r r′ : Order} → r ≡ ordered a b → r′ ≡ ordered a b → r ≡ r′
+  compare-bytes-one = one
+
 -- `reserved`
 pub ident-of-one : (s : List ℕ) {r r′ : Ident} → r ≡ identOf (map upper s) → r′ ≡ identOf (map upper s) → r ≡ r′
 ident-of-one s = one
