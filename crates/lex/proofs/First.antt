@@ -1,16 +1,15 @@
 -- A token by its first byte, and the spaces before it. Assumes nothing.
-use Prim.Native.Nat.{ℕ, zero, suc, _+_, _-_, _<_, _≤_}
-use mathlib.Core.Path.{_≡_, refl, sym, _∙_, ap, subst}
-use mathlib.Core.Bool.{Bool, true, false, not, _&&_, _||_}
-use mathlib.Core.List.{List, [], _∷_, map}
+use Prim.Native.Nat.{ℕ, _+_, _-_, _<_, _≤_}
+use mathlib.Core.Path.{_≡_, refl, sym, _∙_, ap}
+use mathlib.Core.Bool.{Bool, true, false, _&&_, _||_}
+use mathlib.Core.List.{List, _∷_}
 use native.Mathlib.Omega.{arith}
 use native.Mathlib.Nat.{add-zero}
-use borrow.Author.Tests.{eq-eqb, ne-eqb, le-leb, lt-leb, leb-true, eqb-true, ltb-true, ltb-false}
+use borrow.Author.Tests.{ne-eqb, le-leb, lt-leb, leb-true, eqb-true, ltb-true, ltb-false}
 use lib.Dec.{eqb, leb, ltb}
 use lib.ListN.{length, getD, drop, length-drop}
-use Rattle.rules.specs.Base.{if_then_else_, within, ok, span}
-use Rattle.rules.specs.Tokens.{match, token, mark, bad, blank, digit, letter, wordy, space, upper, while, begins, dec, numberAfter, wordAt, directiveAfter, afterHash, afterMinus, afterX, afterR, afterQuote, tokenAt, tokenIn, nextToken}
-use Rattle.rules.proofs.While.{yes-cons, no-cons}
+use Rattle.rules.specs.Base.{if_then_else_, within}
+use Rattle.rules.specs.Tokens.{match, blank, digit, letter, space, upper, while, dec, numberAfter, wordAt, directiveAfter, afterHash, afterMinus, afterX, afterR, afterQuote, tokenAt, nextToken}
 use Rattle.rules.proofs.Sizes.{small, while-short}
 use Rattle.rules.proofs.Next.{here, next-end, next-here, here-blank}
 use Rattle.text.specs.Runs.{inClass, from, runEnd}

@@ -1,22 +1,22 @@
 -- The ways from a token's first byte, as the code takes them. Assumes nothing.
-use Prim.Native.Nat.{ℕ, zero, suc, _+_, _-_, _<_, _≤_}
-use mathlib.Core.Path.{_≡_, refl, sym, _∙_, ap, subst}
-use mathlib.Core.Bool.{Bool, true, false, not, _&&_}
+use Prim.Native.Nat.{ℕ, _+_, _-_, _<_, _≤_}
+use mathlib.Core.Path.{_≡_, refl, sym, _∙_, ap}
+use mathlib.Core.Bool.{Bool, true, false, not}
 use mathlib.Core.List.{List, [], _∷_, map}
 use native.Mathlib.Omega.{arith}
 use borrow.Author.Tests.{eq-eqb, ne-eqb, le-leb, lt-leb, le-ltb, lt-ltb, not-false, eqb-true}
 use lib.Dec.{eqb, leb, ltb}
 use lib.ListN.{length, getD, take, drop, length-drop}
 use lib.Seq.{drop-drop}
-use Rattle.rules.specs.Base.{if_then_else_, is, ok, span}
-use Rattle.rules.specs.Tokens.{Match, match, token, mark, bad, blank, text, digit, letter, wordy, space, upper, value, while, begins, dec, decNeg, hex, hexNeg, reg, numberAfter, wrongAfter, wordAt, afterHash, afterMinus, afterX, afterR, Quoted, open′, closed, quoted, line, afterQuote, tokenAt, tokenIn, nextToken}
+use Rattle.rules.specs.Base.{if_then_else_, ok, span}
+use Rattle.rules.specs.Tokens.{Match, match, token, mark, bad, text, digit, letter, wordy, upper, value, while, begins, dec, decNeg, hex, hexNeg, reg, numberAfter, wrongAfter, wordAt, afterHash, afterMinus, afterX, afterR, Quoted, open′, closed, quoted, line, afterQuote, tokenAt, tokenIn, nextToken}
 use Rattle.rules.proofs.While.{yes-cons, no-cons}
 use Rattle.rules.proofs.Sizes.{while-short}
 use Rattle.rules.proofs.Shown.{take-while}
 use Rattle.rules.proofs.Next.{here, next-end, next-here, here-blank}
 use Rattle.text.specs.Runs.{inClass, from, runEnd}
 use Rattle.text.specs.declared.Class.the-variants as class
-use Rattle.text.proofs.Rest.{from-step, from-end, begins-at, inside}
+use Rattle.text.proofs.Rest.{from-step, begins-at, inside}
 use Rattle.text.proofs.RunLaws.{run-stops}
 use Rattle.reserved.specs.Ident.{identOf}
 use Rattle.literals.specs.Strings.{scan}

@@ -1,2 +1,3 @@
 -- Laws of the walk over a whole source. Assumes nothing.
 pub mod WalkSteps
+pub mod OneAnswer

@@ -2,17 +2,17 @@
 use Prim.Native.Nat.{ℕ, zero, suc, _+_, _-_, _≤_, _<_}
 use mathlib.Core.Path.{_≡_, refl, ap, _∙_, sym, subst}
 use mathlib.Core.Bool.{Bool, true, false}
-use mathlib.Core.List.{List, [], _∷_}
-use mathlib.Core.Logic.{_⊎_, inl, inr, ⊎-elim}
+use mathlib.Core.List.{List}
+use mathlib.Core.Logic.{⊎-elim}
 use native.Mathlib.Nat.{not-suc-le-zero, le-refl}
 use native.Mathlib.Omega.{arith}
 use lib.Dec.{ltb}
-use borrow.Author.Tests.{ltb-true, ltb-false, lt-ltb, le-ltb}
+use borrow.Author.Tests.{ltb-true, ltb-false}
 use lib.ListN.{length, getD, take, drop, drop-of-length-le}
 use lib.Seq.{length-take-le, getD-take, take-length}
-use Rattle.rules.specs.Base.{Outcome, ok, refused, refuse, _>>=_, _>>_, span}
-use Rattle.rules.specs.Tokens.{mark, tokenIn, nextToken, ascii, lexed}
-use Rattle.rules.proofs.Walk.{verdict, tokensOn, onward, tokens-end, tokens-onward, Moves, next-moves, wholeOn, whole-start, whole-long, ascii-low, ascii-high}
+use Rattle.rules.specs.Base.{Outcome, ok, refuse, span}
+use Rattle.rules.specs.Tokens.{mark, nextToken, ascii}
+use Rattle.rules.proofs.Walk.{tokensOn, onward, tokens-end, tokens-onward, Moves, next-moves, wholeOn, ascii-low, ascii-high}
 use Rattle.text.specs.Runs.{inClass, runEnd}
 use Rattle.text.specs.declared.Class.the-variants as class
 use Rattle.text.proofs.RunLaws.{run-in, run-out, run-past}
@@ -22,7 +22,6 @@ use Rattle.token.specs.declared.Token.the-variants.{Unsigned, Signed, Reg, Iden
 use Rattle.token.specs.declared.Next.{Next}
 use Rattle.token.specs.declared.Next.the-variants.{Took, End, Refused}
 use Rattle.lex_source.specs.Lexed.{meantLexed, unlessHigh}
-use Rattle.lex_source.specs.declared.Lexed.{Lexed}
 use Rattle.lex_source.specs.declared.Lexed.the-variants.{Clean, Fault}
 
 -- a part up to e, looked through for a byte above x7F

@@ -2,7 +2,7 @@
 use Prim.Native.Nat.{ℕ}
 use mathlib.Core.List.{List}
 use lib.ListN.{drop}
-use Rattle.rules.specs.Base.{Outcome, ok, refuse, _>>=_, _>>_, span}
+use Rattle.rules.specs.Base.{Outcome, ok, refuse, _>>_, span}
 use Rattle.rules.specs.Tokens.{ascii}
 use Rattle.lex_source.specs.declared.Lexed.{Lexed}
 use Rattle.lex_source.specs.declared.Lexed.the-variants.{Clean, Fault}

@@ -231,7 +231,7 @@ fn copy(data: &[u8], from: usize, src: &mut [u8], at: usize, count: usize) -> us
 
 // Whether a vector's source is answered as its rows and its verdict say.
 fn vector_right(data: &[u8], at: usize, rows: usize, src: &[u8]) -> bool {
-    let verdict = wrapping_add_usize(at, wrapping_add_usize(rows << 4, rows));
+    let verdict = past_rows(at, rows);
     let right = same_row(
         verdict_row(lex_source::first_refusal(src)),
         row_at(data, verdict),
@@ -248,34 +248,56 @@ fn differs(number: u64) {
     io::write_all(STDOUT_FILENO, b"\n");
 }
 
+// How a vector begins: the lengths of its source's parts, and how many rows it has.
+struct Header {
+    head: usize,
+    byte: u8,
+    count: usize,
+    tail: usize,
+    rows: usize,
+}
+
+fn header_at(data: &[u8], at: usize) -> Header {
+    Header {
+        head: two_at(data, at),
+        byte: text::byte_at(data, wrapping_add_usize(at, 2)),
+        count: four_at(data, wrapping_add_usize(at, 3)),
+        tail: two_at(data, wrapping_add_usize(at, 7)),
+        rows: two_at(data, wrapping_add_usize(at, 9)),
+    }
+}
+
+// Writes a vector's source, whose parts begin at `at`, and answers its length.
+fn write_source(data: &[u8], at: usize, header: Header, src: &mut [u8]) -> usize {
+    let one = copy(data, at, src, 0, header.head);
+    let two = repeat(src, one, header.byte, header.count);
+    copy(
+        data,
+        wrapping_add_usize(at, header.head),
+        src,
+        two,
+        header.tail,
+    )
+}
+
+// Where the verdict stands after so many rows.
+fn past_rows(at: usize, rows: usize) -> usize {
+    wrapping_add_usize(at, wrapping_add_usize(rows << 4, rows))
+}
+
 // Replays the vector at a place, and answers where the next one begins.
 fn replay(data: &[u8], at: usize, src: &mut [u8], number: u64) -> usize {
-    let head = two_at(data, at);
-    let byte = text::byte_at(data, wrapping_add_usize(at, 2));
-    let count = four_at(data, wrapping_add_usize(at, 3));
-    let tail = two_at(data, wrapping_add_usize(at, 7));
-    let rows = two_at(data, wrapping_add_usize(at, 9));
+    let header = header_at(data, at);
     let begin = wrapping_add_usize(at, 11);
-    let second = wrapping_add_usize(begin, head);
-    let answers = wrapping_add_usize(second, tail);
-    let one = copy(data, begin, src, 0, head);
-    let two = repeat(src, one, byte, count);
-    let end = copy(data, second, src, two, tail);
+    let end = write_source(data, begin, header, src);
+    let answers = wrapping_add_usize(begin, wrapping_add_usize(header.head, header.tail));
     if end <= src.len() {
-        if vector_right(data, answers, rows, &src[0..end]) {
-            return wrapping_add_usize(
-                answers,
-                wrapping_add_usize(wrapping_add_usize(rows << 4, rows), 17),
-            );
+        if vector_right(data, answers, header.rows, &src[0..end]) {
+            return wrapping_add_usize(past_rows(answers, header.rows), 17);
         }
-        differs(number);
-        return wrapping_add_usize(
-            answers,
-            wrapping_add_usize(wrapping_add_usize(rows << 4, rows), 17),
-        );
     }
     differs(number);
-    at
+    wrapping_add_usize(past_rows(answers, header.rows), 17)
 }
 
 // Replays all vectors and answers how many there are.

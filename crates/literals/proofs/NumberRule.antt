@@ -1,6 +1,6 @@
 -- A number's reading is the rule's, and where the number ends. Assumes nothing.
 use Prim.Native.Nat.{ℕ, zero, suc, _+_, _-_, _*_, _<_, _≤_}
-use mathlib.Core.Path.{_≡_, refl, sym, _∙_, ap, subst}
+use mathlib.Core.Path.{_≡_, refl, sym, _∙_}
 use mathlib.Core.Bool.{Bool, true, false, _&&_}
 use mathlib.Core.List.{List, [], _∷_}
 use native.Mathlib.Nat.{not-suc-le-zero}
@@ -9,7 +9,7 @@ use borrow.Author.Tests.{ltb-true, ltb-false, leb-true, leb-false, le-leb, eqb-t
 use lib.Dec.{eqb, leb, ltb}
 use lib.ListN.{length, getD}
 use Rattle.rules.specs.Base.{if_then_else_, within}
-use Rattle.rules.specs.Tokens.{Form, Found, token, bad, digit, letter, wordy, upper, value, while, digits, read}
+use Rattle.rules.specs.Tokens.{Form, digit, letter, wordy, upper, value, while, digits, read}
 use Rattle.rules.proofs.While.{yes-cons, no-cons}
 use Rattle.rules.proofs.Sizes.{small, digit-wordy, letter-wordy}
 use Rattle.text.specs.Runs.{inClass, from, runEnd}

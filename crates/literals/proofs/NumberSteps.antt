@@ -1,8 +1,8 @@
 -- A number's reading, one character on, as the loop meets it. Assumes nothing.
 use Prim.Native.Nat.{ℕ, _+_, _*_, _<_, _≤_}
-use mathlib.Core.Path.{_≡_, refl, sym, _∙_, ap}
+use mathlib.Core.Path.{_≡_, sym, _∙_}
 use mathlib.Core.Bool.{Bool, true, false}
-use mathlib.Core.List.{List, [], _∷_}
+use mathlib.Core.List.{List}
 use native.Mathlib.Nat.{mul-le-mul}
 use borrow.Author.Tests.{lt-ltb, le-ltb, le-leb, lt-leb}
 use lib.ListN.{length, getD}
@@ -12,7 +12,7 @@ use Rattle.text.specs.Runs.{from}
 use Rattle.text.proofs.Rest.{from-step, from-end}
 use Rattle.literals.specs.Numbers.{stopped, numberFrom}
 use Rattle.literals.specs.declared.Reading.{Reading}
-use Rattle.literals.specs.declared.Reading.the-variants.{Good, Empty, Wrong, Over}
+use Rattle.literals.specs.declared.Reading.the-variants.{Wrong, Over}
 
 pub scaled : (a r : ℕ) → a ≤ 65535 → r ≤ 16 → a * r ≤ 1048560
 scaled a r h k = mul-le-mul h k

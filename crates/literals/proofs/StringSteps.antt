@@ -1,20 +1,19 @@
 -- A string, one byte on, as the loop meets it, and what an escape stands for. Assumes nothing.
 use Prim.Native.Nat.{ℕ, _+_, _<_, _≤_}
-use mathlib.Core.Path.{_≡_, refl, sym, _∙_, ap}
-use mathlib.Core.Bool.{Bool, true, false, _&&_, _||_}
+use mathlib.Core.Path.{_≡_, refl, sym, _∙_}
+use mathlib.Core.Bool.{Bool, true, false, _||_}
 use mathlib.Core.List.{List, [], _∷_}
 use native.Mathlib.Omega.{arith}
 use borrow.Author.Tests.{eq-eqb, ne-eqb}
 use lib.Dec.{eqb}
 use lib.ListN.{length, getD}
 use Rattle.rules.specs.Base.{if_then_else_}
-use Rattle.rules.specs.Tokens.{begins, escape}
+use Rattle.rules.specs.Tokens.{escape}
 use Rattle.text.specs.Runs.{from}
 use Rattle.text.proofs.Rest.{from-step, from-end, begins-at, first-at}
 use Rattle.literals.specs.Strings.{lineStops, closes, opens, adds, isEscape, standsFor, scan, firstOf, afterBackslash, charAt}
 use Rattle.literals.specs.declared.Scanned.{Scanned}
 use Rattle.literals.specs.declared.Scanned.the-variants.{Closed, Open}
-use Rattle.literals.specs.declared.StringChar.{StringChar}
 use Rattle.literals.specs.declared.StringChar.the-variants.{Char, Done}
 
 -- an escape is one character, else the backslash stays

@@ -7,13 +7,13 @@ use native.Mathlib.Nat.{not-suc-le-zero, le-of-suc-le-suc}
 use native.Mathlib.Omega.{arith}
 use borrow.Author.Tests.{eqb-true, leb-true, eq-eqb, ne-eqb}
 use lib.Dec.{eqb, leb}
-use lib.ListN.{length, getD, take}
+use lib.ListN.{length, getD}
 use lib.Seq.{length-take-le, getD-take}
 use Rattle.rules.specs.Base.{if_then_else_, same}
 use Rattle.rules.specs.Tokens.{upper}
 use Rattle.text.specs.Runs.{from}
 use Rattle.text.proofs.Rest.{from-step, from-end}
-use Rattle.reserved.specs.Table.{words, row, nameOf, codeOf, findIn}
+use Rattle.reserved.specs.Table.{words, row, nameOf, findIn}
 use Rattle.reserved.specs.declared.Ident.{Ident}
 use Rattle.reserved.specs.declared.Ident.the-variants.{Reserved, Label}
 

@@ -2,8 +2,7 @@
 use Prim.Native.Nat.{ℕ, zero, suc, _+_, _-_, _≤_, _<_}
 use mathlib.Core.Path.{_≡_, refl, ap, _∙_, sym, subst}
 use mathlib.Core.Bool.{Bool, true, false}
-use mathlib.Core.List.{List, [], _∷_, _++_}
-use mathlib.Core.Logic.{_⊎_, inl, inr, ⊎-elim}
+use mathlib.Core.List.{List, [], _∷_}
 use native.Mathlib.Nat.{add-zero, le-of-suc-le-suc, not-suc-le-zero}
 use native.Mathlib.Numerals.{add-one}
 use native.Mathlib.Omega.{arith}
@@ -11,11 +10,10 @@ use lib.Dec.{ltb}
 use borrow.Author.Tests.{ltb-true, ltb-false}
 use lib.ListN.{length, drop, getD, length-drop, drop-of-length-le}
 use lib.Seq.{drop-cons, drop-drop}
-use Rattle.rules.specs.Base.{Outcome, ok, refused, refuse, _>>=_, Span, span}
-use Rattle.rules.specs.Tokens.{Token, tokenIn, Kind, mark, Found, token, blank, bad, Match, match, tokenAt, kept, nextFrom, nextToken, tokensFrom}
+use Rattle.rules.specs.Base.{Outcome, ok, refuse, span}
+use Rattle.rules.specs.Tokens.{Token, tokenIn, Kind, mark, Found, token, blank, bad, Match, match, tokenAt, nextFrom, nextToken}
 use Rattle.rules.proofs.Sizes.{Within, token-within}
 use Rattle.rules.proofs.Shown.{Shows, token-right}
-use Rattle.rules.proofs.Lexing.{andThen, tokens-next}
 
 -- bytes already read are passed over
 skip : (k i : ℕ) (s : List ℕ) → k ≤ length s → nextFrom k i s ≡ nextFrom 0 (i + k) (drop k s)

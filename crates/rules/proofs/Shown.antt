@@ -1,15 +1,15 @@
 -- What a token's match shows of the bytes that it covers. Assumes nothing.
-use Prim.Native.Nat.{ℕ, zero, suc, _+_, _-_, _*_, _≤_, _<_}
-use mathlib.Core.Path.{_≡_, refl, ap, sym, _∙_}
-use mathlib.Core.Bool.{Bool, true, false, not, _&&_, _||_}
-use mathlib.Core.List.{List, [], _∷_, _++_, map}
+use Prim.Native.Nat.{ℕ, _+_, _-_, _*_}
+use mathlib.Core.Path.{_≡_, refl, ap}
+use mathlib.Core.Bool.{Bool, true, false}
+use mathlib.Core.List.{List, [], _∷_, map}
 use mathlib.Core.Logic.{_⊎_, inl, inr}
 use native.Mathlib.Omega.{arith}
-use lib.Dec.{leb, ltb, eqb}
+use lib.Dec.{leb, eqb}
 use borrow.Author.Tests.{eqb-true}
 use lib.ListN.{length, drop, take}
-use Rattle.rules.specs.Base.{if_then_else_, is}
-use Rattle.rules.specs.Tokens.{Num, plus, minus, Kind, number, register, mark, word, directive, text, Found, token, blank, bad, Match, match, Form, while, begins, wordy, space, upper, value, digits, read, dec, decNeg, hex, hexNeg, reg, numberAfter, wrongAfter, wordAt, directiveAfter, afterHash, afterMinus, afterX, afterR, Quoted, open′, closed, quoted, line, afterQuote, tokenAt, digit, letter}
+use Rattle.rules.specs.Base.{if_then_else_}
+use Rattle.rules.specs.Tokens.{Kind, number, register, mark, word, directive, text, Found, token, blank, bad, Match, match, Form, while, wordy, upper, value, digits, read, dec, decNeg, hex, hexNeg, reg, numberAfter, wrongAfter, wordAt, directiveAfter, afterHash, afterMinus, afterX, afterR, Quoted, open′, closed, quoted, line, afterQuote, tokenAt}
 
 -- the characters of a string; none of one that has no end
 unfoldable pub chars : Quoted → List ℕ

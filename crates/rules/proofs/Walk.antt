@@ -1,17 +1,15 @@
 -- A walk over a source's tokens: its verdict from a place on is that from the next token's end. Assumes nothing.
-use Prim.Native.Nat.{ℕ, zero, suc, _+_, _-_, _≤_, _<_}
-use mathlib.Core.Path.{_≡_, refl, ap, _∙_, sym, subst}
-use mathlib.Core.Bool.{Bool, true, false}
+use Prim.Native.Nat.{ℕ, _+_, _≤_, _<_}
+use mathlib.Core.Path.{_≡_, refl, ap, _∙_, sym}
 use mathlib.Core.List.{List, [], _∷_, _++_}
 use mathlib.Core.Logic.{_⊎_, inl, inr}
 use native.Mathlib.Numerals.{add-one}
 use native.Mathlib.Omega.{arith}
-use lib.Dec.{ltb}
 use borrow.Author.Tests.{lt-ltb, le-ltb, le-leb, lt-leb}
 use lib.ListN.{length, drop, getD, drop-of-length-le}
 use lib.Seq.{drop-cons}
-use Rattle.rules.specs.Base.{Outcome, ok, refused, refuse, _>>=_, _>>_, require, Span, span}
-use Rattle.rules.specs.Tokens.{Token, tokenIn, Kind, number, register, mark, word, directive, text, token, blank, bad, Match, match, tokenAt, kept, nextToken, tokensFrom, tokens, ascii, lexed}
+use Rattle.rules.specs.Base.{Outcome, ok, refused, refuse, _>>=_, _>>_, span}
+use Rattle.rules.specs.Tokens.{Token, tokenIn, Kind, number, register, mark, word, directive, text, token, blank, bad, match, kept, nextToken, tokensFrom, tokens, ascii, lexed}
 use Rattle.rules.proofs.Lexing.{andThen, tokens-next}
 use Rattle.rules.proofs.Shown.{Tells}
 use Rattle.rules.proofs.Next.{next-induction}

@@ -167,3 +167,29 @@ pub fn compare_names(a: &[u8], b: &[u8]) -> Order
         Order::Less
     }
 }
+
+// Two names as they stand, bytewise; a name goes before a longer one that it begins.
+pub fn compare_bytes(a: &[u8], b: &[u8]) -> Order
+    ensures { λ r. ⌜ r ≡ ordered (now (a .entry)) (now (b .entry)) ⌝ }
+{
+    let mut i = 0;
+    while i < a.len() {
+        if b.len() <= i {
+            return Order::Greater;
+        }
+        let x = a[i];
+        let y = b[i];
+        if x < y {
+            return Order::Less;
+        }
+        if y < x {
+            return Order::Greater;
+        }
+        i += 1;
+    }
+    if b.len() <= i {
+        Order::Same
+    } else {
+        Order::Less
+    }
+}

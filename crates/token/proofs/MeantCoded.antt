@@ -1,14 +1,14 @@
 -- What the code tells of the next token loses nothing: it means what the rule says. Assumes nothing.
-use Prim.Native.Nat.{ℕ, _+_, _-_, _<_, _≤_}
-use mathlib.Core.Path.{_≡_, refl, sym, _∙_, ap}
-use mathlib.Core.List.{List, [], _∷_, map}
-use mathlib.Core.Logic.{_⊎_, inl, inr}
+use Prim.Native.Nat.{ℕ, _+_, _-_, _<_}
+use mathlib.Core.Path.{_≡_, refl}
+use mathlib.Core.List.{List, _∷_}
+use mathlib.Core.Logic.{inl, inr}
 use native.Mathlib.Numerals.{add-one}
 use native.Mathlib.Omega.{arith}
-use lib.ListN.{length, getD, take, drop}
+use lib.ListN.{length, getD, drop}
 use lib.Seq.{drop-cons}
 use Rattle.rules.specs.Base.{if_then_else_, ok, span}
-use Rattle.rules.specs.Tokens.{Num, plus, minus, Kind, number, register, mark, word, directive, text, upper, tokenIn, nextToken}
+use Rattle.rules.specs.Tokens.{plus, minus, Kind, number, register, mark, word, directive, text, tokenIn, nextToken}
 use Rattle.rules.proofs.Shown.{Tells}
 use Rattle.rules.proofs.Next.{next-induction}
 use Rattle.token.specs.Coded.{marked, codedAs, coded}

@@ -1,10 +1,10 @@
 -- What a number's reading is told as. Assumes nothing.
-use Prim.Native.Nat.{ℕ, _+_, _<_, _≤_}
+use Prim.Native.Nat.{ℕ, _+_, _≤_}
 use mathlib.Core.Path.{_≡_, refl, sym, _∙_, ap, subst}
 use mathlib.Core.List.{List}
 use native.Mathlib.Omega.{arith}
 use lib.ListN.{length, drop}
-use Rattle.rules.specs.Tokens.{Found, match, while, wordy, read, numberAfter}
+use Rattle.rules.specs.Tokens.{match, while, wordy, numberAfter}
 use Rattle.rules.specs.Tokens as tokens
 use Rattle.rules.proofs.Next.{here}
 use Rattle.text.specs.Runs.{inClass, from, runEnd}

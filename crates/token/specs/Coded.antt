@@ -5,7 +5,7 @@ use mathlib.Core.List.{List}
 use lib.Dec.{eqb}
 use lib.ListN.{drop}
 use Rattle.rules.specs.Base.{if_then_else_, Outcome, ok, refused}
-use Rattle.rules.specs.Tokens.{Num, plus, minus, Kind, number, register, mark, word, directive, text, Match, Token, form}
+use Rattle.rules.specs.Tokens.{plus, minus, Kind, number, register, mark, word, directive, text, Match, Token, form}
 use Rattle.rules.specs.Tokens as tokens
 use Rattle.rules.proofs.Next.{here}
 use Rattle.reserved.specs.Ident.{identOf}

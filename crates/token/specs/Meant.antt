@@ -1,10 +1,10 @@
 -- What the code's answers mean in the rules. Assumes nothing.
 use Prim.Native.Nat.{ℕ, _+_, _-_}
-use mathlib.Core.Bool.{Bool, true, false}
+use mathlib.Core.Bool.{false}
 use mathlib.Core.List.{List, map}
 use lib.ListN.{take, drop}
 use Rattle.rules.specs.Base.{Outcome, ok, refuse, span}
-use Rattle.rules.specs.Tokens.{Num, plus, minus, Kind, number, register, mark, word, directive, text, upper, quoted, line, tokenIn}
+use Rattle.rules.specs.Tokens.{plus, minus, Kind, number, register, mark, word, directive, text, upper, quoted, line, tokenIn}
 use Rattle.rules.specs.Tokens as tokens
 use Rattle.rules.proofs.Shown.{chars}
 use Rattle.token.specs.declared.Token.{Token}

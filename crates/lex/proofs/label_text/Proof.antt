@@ -1,3 +1,4 @@
+-- `lex::label_text` meets its contract. Assumes nothing.
 use Rattle.rules.specs.Base.{if_then_else_}
 use Rattle.text.proofs.Rest.{tests}
 use Rattle.token.specs.Meant.{part}

@@ -1,3 +1,4 @@
+-- `lex::lex_comment` meets its contract. Assumes nothing.
 use Rattle.lex.proofs.Told.{comment-line, comment-end}
 use borrow.Author.Needs.{needs}
 use Rattle.lex.proofs.lex_comment.Statement.{statement}

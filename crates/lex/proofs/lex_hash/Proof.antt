@@ -1,3 +1,4 @@
+-- `lex::lex_hash` meets its contract. Assumes nothing.
 use mathlib.Core.Path.{_∙_}
 use native.Mathlib.Omega.{arith}
 use Rattle.text.proofs.Rest.{inside}

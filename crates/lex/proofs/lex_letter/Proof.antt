@@ -1,3 +1,4 @@
+-- `lex::lex_letter` meets its contract. Assumes nothing.
 use mathlib.Core.Path.{_∙_}
 use Rattle.lex.proofs.First.{told-r, told-x, told-word}
 use borrow.Author.Needs.{needs}

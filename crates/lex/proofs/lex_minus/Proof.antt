@@ -1,3 +1,4 @@
+-- `lex::lex_minus` meets its contract. Assumes nothing.
 use mathlib.Core.Path.{_∙_}
 use Rattle.lex.proofs.Told.{minus-plain, minus-hash}
 use borrow.Author.Needs.{needs}

@@ -1,3 +1,4 @@
+-- `lex::lex_other` meets its contract. Assumes nothing.
 use mathlib.Core.Path.{_∙_}
 use Rattle.lex.proofs.First.{is-comma, is-line, is-colon, is-comment, is-quote, is-return, is-dot, is-none}
 use borrow.Author.Needs.{needs}

@@ -1,3 +1,4 @@
+-- `lex::lex_r` meets its contract. Assumes nothing.
 use mathlib.Core.Path.{_∙_}
 use Rattle.lex.proofs.Told.{r-alone, r-word, r-reg}
 use borrow.Author.Needs.{needs}

@@ -1,3 +1,4 @@
+-- `lex::lex_return` meets its contract. Assumes nothing.
 use Rattle.lex.proofs.Told.{return-line, return-alone}
 use borrow.Author.Needs.{needs}
 use Rattle.lex.proofs.lex_return.Statement.{statement}

@@ -1,3 +1,4 @@
+-- `lex::lex_str_literal` meets its contract. Assumes nothing.
 use mathlib.Core.Path.{sym, _∙_}
 use Rattle.lex.proofs.Told.{quote-took, quote-big, quote-open}
 use borrow.Author.Needs.{needs}

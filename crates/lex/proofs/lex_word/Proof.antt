@@ -1,3 +1,4 @@
+-- `lex::lex_word` meets its contract. Assumes nothing.
 use Rattle.text.proofs.RunLaws.{end-ge, end-le}
 use Rattle.lex.proofs.Told.{word-told}
 use borrow.Author.Needs.{needs}

@@ -1,3 +1,4 @@
+-- `lex::lex_x` meets its contract. Assumes nothing.
 use mathlib.Core.Path.{_∙_}
 use native.Mathlib.Omega.{arith}
 use Rattle.lex.proofs.Told.{second-in, x-minus, x-digit, x-word}

@@ -1,4 +1,5 @@
-use mathlib.Core.Path.{sym, _∙_, ap}
+-- `lex::next_token` meets its contract. Assumes nothing.
+use mathlib.Core.Path.{_∙_, ap}
 use Rattle.token.specs.Meant.{meant}
 use Rattle.token.proofs.MeantCoded.{meant-coded}
 use Rattle.lex.proofs.First.{no-space, next-told, next-done}

@@ -1,3 +1,4 @@
+-- `lex::token_at` meets its contract. Assumes nothing.
 use mathlib.Core.Path.{sym, _∙_}
 use Rattle.lex.proofs.First.{told-digit, told-hash, told-minus, told-other}
 use borrow.Author.Needs.{needs}

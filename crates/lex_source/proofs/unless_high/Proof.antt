@@ -1,3 +1,4 @@
+-- `lex_source::unless_high` meets its contract. Assumes nothing.
 use Rattle.lex_source.specs.Lexed.{meantLexed}
 use Rattle.lex_source.proofs.WalkSteps.{rest-high, rest-none}
 use borrow.Author.Needs.{needs}

@@ -1,5 +1,6 @@
-use mathlib.Core.Path.{_≡_, refl}
-use lib.ListN.{length, length-set}
+-- `lex_vectors::copy` meets its contract. Assumes nothing.
+use mathlib.Core.Path.{_≡_}
+use lib.ListN.{length}
 use borrow.Author.Needs.{needs}
 use Rattle.lex_vectors.proofs.copy.Statement.{statement}
 use Rattle.lex_vectors.proofs.copy.Tie as tie

@@ -1,3 +1,4 @@
+-- `lex_vectors::replay_all` meets its contract. Assumes nothing.
 use Prim.Native.Nat.{_-_}
 use mathlib.Core.Path.{_≡_}
 use lib.ListN.{length}

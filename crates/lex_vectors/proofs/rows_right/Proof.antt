@@ -1,3 +1,4 @@
+-- `lex_vectors::rows_right` meets its contract. Assumes nothing.
 use borrow.Author.Needs.{needs}
 use Rattle.lex_vectors.proofs.rows_right.Statement.{statement}
 use Rattle.lex_vectors.proofs.rows_right.Tie as tie

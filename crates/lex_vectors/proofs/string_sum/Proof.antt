@@ -1,3 +1,4 @@
+-- `lex_vectors::string_sum` meets its contract. Assumes nothing.
 use borrow.Author.Needs.{needs}
 use Rattle.lex_vectors.proofs.string_sum.Statement.{statement}
 use Rattle.lex_vectors.proofs.string_sum.Tie as tie

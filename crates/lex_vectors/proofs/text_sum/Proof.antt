@@ -1,3 +1,4 @@
+-- `lex_vectors::text_sum` meets its contract. Assumes nothing.
 use Prim.Native.Nat.{_-_}
 use lib.ListN.{length}
 use borrow.Author.Needs.{needs}

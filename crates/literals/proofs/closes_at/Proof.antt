@@ -1,6 +1,6 @@
+-- `literals::closes_at` meets its contract. Assumes nothing.
 use Rattle.rules.specs.Base.{if_then_else_}
 use Rattle.literals.specs.Strings.{closes}
-use borrow.Author.Needs.{needs}
 use Rattle.literals.proofs.closes_at.Statement.{statement}
 use Rattle.literals.proofs.closes_at.Tie as tie
 

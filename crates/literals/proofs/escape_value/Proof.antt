@@ -1,7 +1,7 @@
+-- `literals::escape_value` meets its contract. Assumes nothing.
 use Rattle.rules.specs.Base.{if_then_else_}
 use Rattle.text.proofs.Rest.{tests}
 use Rattle.literals.specs.Strings.{standsFor}
-use borrow.Author.Needs.{needs}
 use Rattle.literals.proofs.escape_value.Statement.{statement}
 use Rattle.literals.proofs.escape_value.Tie as tie
 

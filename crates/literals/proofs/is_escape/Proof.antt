@@ -1,6 +1,6 @@
+-- `literals::is_escape` meets its contract. Assumes nothing.
 use mathlib.Core.Path.{refl}
 use Rattle.literals.specs.Strings.{isEscape}
-use borrow.Author.Needs.{needs}
 use Rattle.literals.proofs.is_escape.Statement.{statement}
 use Rattle.literals.proofs.is_escape.Tie as tie
 

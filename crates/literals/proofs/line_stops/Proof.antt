@@ -1,3 +1,4 @@
+-- `literals::line_stops` meets its contract. Assumes nothing.
 use Rattle.literals.proofs.StringSteps.{stops-lf, stops-cr, stops-not}
 use borrow.Author.Needs.{needs}
 use Rattle.literals.proofs.line_stops.Statement.{statement}

@@ -1,3 +1,4 @@
+-- `literals::number_ends` meets its contract. Assumes nothing.
 use Rattle.rules.specs.Base.{if_then_else_}
 use Rattle.text.proofs.Rest.{tests}
 use Rattle.literals.specs.Numbers.{stopped}

@@ -1,6 +1,6 @@
+-- `literals::opens_at` meets its contract. Assumes nothing.
 use Rattle.rules.specs.Base.{if_then_else_}
 use Rattle.literals.specs.Strings.{opens}
-use borrow.Author.Needs.{needs}
 use Rattle.literals.proofs.opens_at.Statement.{statement}
 use Rattle.literals.proofs.opens_at.Tie as tie
 

@@ -1,4 +1,5 @@
-use Prim.Native.Nat.{_-_, _*_, _≤_}
+-- `literals::read_number` meets its contract. Assumes nothing.
+use Prim.Native.Nat.{_-_, _≤_}
 use mathlib.Core.Path.{_≡_, refl}
 use native.Mathlib.Omega.{arith}
 use lib.ListN.{length}

@@ -1,3 +1,4 @@
+-- `literals::scan_string` meets its contract. Assumes nothing.
 use Prim.Native.Nat.{_-_, _*_, _≤_}
 use mathlib.Core.Path.{_≡_, refl}
 use mathlib.Core.Bool.{false}

@@ -1,3 +1,4 @@
+-- `literals::string_char` meets its contract. Assumes nothing.
 use Rattle.literals.proofs.StringSteps.{char-end, char-quote, char-escape, char-kept, char-plain}
 use borrow.Author.Needs.{needs}
 use Rattle.literals.proofs.string_char.Statement.{statement}

@@ -1,3 +1,4 @@
+-- `reserved::cell` meets its contract. Assumes nothing.
 use mathlib.Core.Path.{ap}
 use mathlib.Core.List.{List, []}
 use Prim.Native.Nat.{ℕ}

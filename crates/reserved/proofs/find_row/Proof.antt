@@ -1,4 +1,5 @@
-use Prim.Native.Nat.{_-_, _≤_}
+-- `reserved::find_row` meets its contract. Assumes nothing.
+use Prim.Native.Nat.{_-_}
 use mathlib.Core.Path.{_≡_, refl}
 use mathlib.Core.List.{map}
 use Rattle.rules.specs.Tokens.{upper}

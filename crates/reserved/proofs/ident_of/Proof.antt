@@ -1,5 +1,5 @@
+-- `reserved::ident_of` meets its contract. Assumes nothing.
 use mathlib.Core.Path.{refl}
-use native.Mathlib.Omega.{arith}
 use Rattle.reserved.specs.Table.{words}
 use Rattle.reserved.proofs.Rows.{find-none}
 use Rattle.reserved.proofs.Rule.{ident-short, ident-long, ident-low, ident-high, ident-found, next-last}

@@ -1,3 +1,4 @@
+-- `text::compare_names` meets its contract. Assumes nothing.
 use Prim.Native.Nat.{_-_}
 use mathlib.Core.Path.{_≡_}
 use mathlib.Core.List.{map}
@@ -5,13 +6,13 @@ use lib.ListN.{length}
 use Rattle.rules.specs.Tokens.{upper}
 use Rattle.text.specs.Names.{ordered}
 use Rattle.text.proofs.Rest.{from-start}
-use Rattle.text.proofs.NameLaws.{upFrom, less-met, greater-met, order-again, short-met, long-met, same-met}
+use Rattle.text.proofs.NameLaws.{mapFrom, less-met, greater-met, order-again, short-met, long-met, same-met}
 use borrow.Author.Needs.{needs}
 use Rattle.text.proofs.compare_names.Statement.{statement}
 use Rattle.text.proofs.compare_names.Tie as tie
 
 abbrev Inv-loop : tie.InvT-loop
-Inv-loop a b i₀ i = ordered (upFrom a i) (upFrom b i) ≡ ordered (map upper a) (map upper b)
+Inv-loop a b i₀ i = ordered (mapFrom upper a i) (mapFrom upper b i) ≡ ordered (map upper a) (map upper b)
 
 abbrev μ-loop : tie.MeasureT-loop
 μ-loop a b i₀ i = length a - i
@@ -23,15 +24,15 @@ compare-names-spec =
     Inv-loop
     μ-loop
     (λ c. simp from-start)
-    (λ c. search (needs, long-met))
+    (λ c. long-met upper (c .before .before .before .before .before .args .a .now) (c .before .before .before .before .before .args .b .now) (c .before .before .loop .inv) (c .before .loop-test .taken) (c .if1 .taken))
     (λ c. search needs)
     (λ c κs. search needs)
     (λ c. search needs)
     (λ c κs. search needs)
-    (λ c. search (needs, less-met))
-    (λ c. search (needs, greater-met))
+    (λ c. less-met upper _ _ (c .before .before .before .upper-case .ensures) (c .before .upper-case2 .ensures) (c .before .before .before .before .before .before .loop-test .taken) (c .before .before .before .before .before .if1 .left) (c .before .before .before .before .before .before .before .loop .inv) (c .if2 .taken))
+    (λ c. greater-met upper _ _ (c .before .before .before .before .upper-case .ensures) (c .before .before .upper-case2 .ensures) (c .before .before .before .before .before .before .before .loop-test .taken) (c .before .before .before .before .before .before .if1 .left) (c .before .before .before .before .before .before .before .before .loop .inv) (c .if3 .taken))
     (λ c. search needs)
     (λ c. search needs)
-    (λ c. order-again _ _ (c .before .before .before .before .upper-case .ensures) (c .before .before .upper-case2 .ensures) (c .before .before .before .before .before .before .before .loop-test .taken) (c .before .before .before .before .before .before .if1 .left) (c .before .before .before .before .before .before .before .before .loop .inv) (c .before .if2 .left) (c .if3 .left))
-    (λ c. search (needs, same-met))
-    (λ c. search (needs, short-met)))
+    (λ c. order-again upper _ _ (c .before .before .before .before .upper-case .ensures) (c .before .before .upper-case2 .ensures) (c .before .before .before .before .before .before .before .loop-test .taken) (c .before .before .before .before .before .before .if1 .left) (c .before .before .before .before .before .before .before .before .loop .inv) (c .before .if2 .left) (c .if3 .left))
+    (λ c. same-met upper (c .before .before .before .before .before .args .a .now) (c .before .before .before .before .before .args .b .now) (c .before .before .loop .inv) (c .before .loop-test .left) (c .if4 .taken))
+    (λ c. short-met upper (c .before .before .before .before .before .args .a .now) (c .before .before .before .before .before .args .b .now) (c .before .before .loop .inv) (c .before .loop-test .left) (c .if4 .left)))

@@ -1,3 +1,4 @@
+-- `text::digit_value` meets its contract. Assumes nothing.
 use native.Mathlib.Omega.{arith}
 use Rattle.rules.proofs.Bytes.{value-low, value-digit, value-mid, value-upper, value-between, value-lower, value-high}
 use borrow.Author.Needs.{needs}

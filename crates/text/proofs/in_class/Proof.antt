@@ -1,3 +1,4 @@
+-- `text::in_class` meets its contract. Assumes nothing.
 use Rattle.text.specs.Runs.{inClass}
 use borrow.Author.Needs.{needs}
 use Rattle.text.proofs.in_class.Statement.{statement}

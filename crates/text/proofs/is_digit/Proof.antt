@@ -1,6 +1,6 @@
+-- `text::is_digit` meets its contract. Assumes nothing.
 use mathlib.Core.Path.{refl}
 use Rattle.rules.specs.Tokens.{digit}
-use borrow.Author.Needs.{needs}
 use Rattle.text.proofs.is_digit.Statement.{statement}
 use Rattle.text.proofs.is_digit.Tie as tie
 

@@ -1,6 +1,6 @@
+-- `text::is_letter` meets its contract. Assumes nothing.
 use mathlib.Core.Path.{refl}
 use Rattle.rules.specs.Tokens.{letter}
-use borrow.Author.Needs.{needs}
 use Rattle.text.proofs.is_letter.Statement.{statement}
 use Rattle.text.proofs.is_letter.Tie as tie
 

@@ -1,6 +1,6 @@
+-- `text::is_space` meets its contract. Assumes nothing.
 use mathlib.Core.Path.{refl}
 use Rattle.rules.specs.Tokens.{space}
-use borrow.Author.Needs.{needs}
 use Rattle.text.proofs.is_space.Statement.{statement}
 use Rattle.text.proofs.is_space.Tie as tie
 

@@ -1,3 +1,4 @@
+-- `text::is_word` meets its contract. Assumes nothing.
 use Rattle.rules.specs.Tokens.{wordy}
 use borrow.Author.Needs.{needs}
 use Rattle.text.proofs.is_word.Statement.{statement}

@@ -1,3 +1,4 @@
+-- `text::same_name` meets its contract. Assumes nothing.
 use Prim.Native.Nat.{_-_}
 use mathlib.Core.Path.{_≡_, sym}
 use mathlib.Core.List.{map}
@@ -5,13 +6,13 @@ use lib.ListN.{length}
 use Rattle.rules.specs.Base.{same}
 use Rattle.rules.specs.Tokens.{upper}
 use Rattle.text.proofs.Rest.{from-start}
-use Rattle.text.proofs.NameLaws.{upFrom, same-again, same-differs, same-done, same-lengths}
+use Rattle.text.proofs.NameLaws.{mapFrom, same-again, same-differs, same-done, same-lengths}
 use borrow.Author.Needs.{needs}
 use Rattle.text.proofs.same_name.Statement.{statement}
 use Rattle.text.proofs.same_name.Tie as tie
 
 abbrev Inv-loop : tie.InvT-loop
-Inv-loop a b i₀ i = same (upFrom a i) (upFrom b i) ≡ same (map upper a) (map upper b)
+Inv-loop a b i₀ i = same (mapFrom upper a i) (mapFrom upper b i) ≡ same (map upper a) (map upper b)
 
 abbrev μ-loop : tie.MeasureT-loop
 μ-loop a b i₀ i = length a - i
@@ -29,7 +30,7 @@ same-name-spec =
     (λ c κs. search needs)
     (λ c. search needs)
     (λ c. search needs)
-    (λ c. same-again _ _ (c .before .before .before .upper-case .ensures) (c .before .upper-case2 .ensures) (c .before .before .before .before .before .loop-test .taken) (c .before .before .before .before .before .before .before .if1 .taken) (c .before .before .before .before .before .before .loop .inv) (c .if2 .taken))
+    (λ c. same-again upper _ _ (c .before .before .before .upper-case .ensures) (c .before .upper-case2 .ensures) (c .before .before .before .before .before .loop-test .taken) (c .before .before .before .before .before .before .before .if1 .taken) (c .before .before .before .before .before .before .loop .inv) (c .if2 .taken))
     (λ c. search (needs, same-differs))
     (λ c. search (needs, same-done))
     (λ c. sym (same-lengths (c .before .before .before .args .a .now) (c .before .before .before .args .b .now) (c .if1 .left))))

@@ -1,3 +1,4 @@
+-- `text::upper_case` meets its contract. Assumes nothing.
 use native.Mathlib.Omega.{arith}
 use Rattle.text.proofs.ByteLaws.{upper-low, upper-small, upper-high}
 use borrow.Author.Needs.{needs}

@@ -1,3 +1,4 @@
+-- `token::lex_number` meets its contract. Assumes nothing.
 use mathlib.Core.Path.{sym, _∙_}
 use Rattle.token.specs.Coded.{formOf}
 use Rattle.token.proofs.NumberTold.{good-told, none-told, wrong-told, over-told}

@@ -1,3 +1,4 @@
+-- `token::lex_reg` meets its contract. Assumes nothing.
 use mathlib.Core.Path.{sym, _∙_}
 use native.Mathlib.Omega.{arith}
 use Rattle.rules.specs.Tokens.{reg}

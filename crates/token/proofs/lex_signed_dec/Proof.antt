@@ -1,3 +1,4 @@
+-- `token::lex_signed_dec` meets its contract. Assumes nothing.
 use Rattle.rules.specs.Tokens.{decNeg}
 use Rattle.token.specs.Coded.{signedKind, formOf}
 use borrow.Author.Needs.{needs}

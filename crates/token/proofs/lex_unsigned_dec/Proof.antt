@@ -1,3 +1,4 @@
+-- `token::lex_unsigned_dec` meets its contract. Assumes nothing.
 use Rattle.rules.specs.Tokens.{dec}
 use Rattle.token.specs.Coded.{signedKind, formOf}
 use borrow.Author.Needs.{needs}

@@ -1,3 +1,4 @@
+-- `token::lex_unsigned_hex` meets its contract. Assumes nothing.
 use Rattle.rules.specs.Tokens.{hex}
 use Rattle.token.specs.Coded.{signedKind, formOf}
 use borrow.Author.Needs.{needs}

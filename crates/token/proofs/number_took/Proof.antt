@@ -1,5 +1,5 @@
+-- `token::number_took` meets its contract. Assumes nothing.
 use Rattle.token.specs.Coded.{codedAs, signedKind}
-use borrow.Author.Needs.{needs}
 use Rattle.token.proofs.number_took.Statement.{statement}
 use Rattle.token.proofs.number_took.Tie as tie
 
