@@ -1,0 +1,2 @@
+-- What the contracts of `relocation_table` cite beside the rules. Assumes nothing.
+pub mod Pending
