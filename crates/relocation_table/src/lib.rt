@@ -1,9 +1,13 @@
 // The relocations while pass one finds them: rows of address, 0, and the name's start and length in the source, by address.
 ghost use mathlib.Core.Path.{_≡_};
-ghost use Prim.Native.Nat.{_+_, _*_, _≤_};
+ghost use Prim.Native.Nat.{_+_, _*_, _≤_, _<_};
 ghost use lib.ListN.{length, getD, set};
+ghost use Rattle.rules.specs.Buffers.{lay, rowOf, relocCells};
 ghost use Rattle.object.specs.Decides.{Decides};
-ghost use Rattle.relocation_table.specs.Pending.{Pending, Bound, AtAddress, Ready, Adding};
+ghost use Rattle.label_layout.specs.Laying.{Blank};
+ghost use Rattle.relocation_table.specs.Pending.{noteRow, notes, Pending, Bound, AtAddress, Ready, Adding};
+ghost use Rattle.relocation_table.specs.Resolved.{labelsOf, Resolved};
+use symbols::Row;
 
 // What becomes of a relocation: the table has so many rows, with it; or no row is left.
 pub enum Noted {
@@ -87,4 +91,53 @@ pub fn add_relocation(
     }
     tables::insert_four(rows, n, p, address, 0, start, size);
     Noted::Held(n + 1)
+}
+
+fn narrow(x: usize) -> u32
+    requires { ⌜ x ≤ 1024 ⌝ }
+    ensures { λ r. ⌜ r ≡ x ⌝ }
+{
+    x as u32
+}
+
+// The row of the label that row k names, among m symbols that have it.
+fn label_row(rows: &[u32], src: &[u8], n: usize, k: usize, symbols: &[u32], m: usize) -> u32
+    requires { ⌜ Resolved (now rows) (now src) n (now symbols) m × (k < n) ⌝ }
+    ensures { λ r. ⌜ r ≡ rowOf (labelsOf m (now (symbols .entry)) (now (src .entry))) (noteRow (now (rows .entry)) (now (src .entry)) k .1) ⌝ }
+{
+    let i = k * 4;
+    match symbols::find_symbol(symbols, src, m, rows[i + 2], rows[i + 3]) {
+        Row::At(j) => narrow(j),
+        Row::Nothing => 0,
+    }
+}
+
+// All n rows as an object's relocations, into a cleared table.
+fn lay_rows(rows: &[u32], src: &[u8], n: usize, symbols: &[u32], m: usize, relocations: &mut [u32])
+    requires { ⌜ Resolved (now rows) (now src) n (now symbols) m × (n * 2 ≤ length (now relocations)) × Blank (now relocations) ⌝ }
+    ensures { λ _. ⌜ now (relocations .exit) ≡ lay (relocCells (labelsOf m (now (symbols .entry)) (now (src .entry))) (notes n (now (rows .entry)) (now (src .entry)))) (length (now (relocations .entry))) ⌝ }
+{
+    let mut k = 0;
+    while k < n {
+        let address = address_of(rows, k);
+        let row = label_row(rows, src, n, k, symbols, m);
+        buffers::row_u32(relocations, k, address, row);
+        k += 1;
+    }
+}
+
+// All n rows as an object's relocations, in the one layout, whatever stood there.
+pub fn lay_relocations(
+    rows: &[u32],
+    src: &[u8],
+    n: usize,
+    symbols: &[u32],
+    m: usize,
+    relocations: &mut [u32],
+)
+    requires { ⌜ Resolved (now rows) (now src) n (now symbols) m × (n * 2 ≤ length (now relocations)) ⌝ }
+    ensures { λ _. ⌜ now (relocations .exit) ≡ lay (relocCells (labelsOf m (now (symbols .entry)) (now (src .entry))) (notes n (now (rows .entry)) (now (src .entry)))) (length (now (relocations .entry))) ⌝ }
+{
+    buffers::zero_u32(relocations);
+    lay_rows(rows, src, n, symbols, m, relocations);
 }

@@ -188,7 +188,7 @@ labels-ok o x y w p q = record {
 
 -- RELOCATIONS
 
-length-relocCells : (ls : Table Name Lab) (rs : Table ℕ Name) → length (relocCells ls rs) ≡ length rs * 2
+pub length-relocCells : (ls : Table Name Lab) (rs : Table ℕ Name) → length (relocCells ls rs) ≡ length rs * 2
 length-relocCells ls [] = refl
 length-relocCells ls (r ∷ rs) = let e = length-relocCells ls rs in omega arith
 
