@@ -11,8 +11,8 @@ use lib.Dec.{ltb}
 use lib.ListN.{length, getD, set, length-set}
 use lib.Seq.{getD-set-same, getD-set-other}
 use borrow.Author.Tests.{lt-ltb, le-ltb}
-use Rattle.rules.specs.Base.{if_then_else_, Outcome, ok, refuse, _>>=_, Span}
-use Rattle.rules.specs.Tables.{Table, Order, Tri, less, same, more, look, has, insert, put, newer, natOrder}
+use Rattle.rules.specs.Base.{if_then_else_, has, Outcome, ok, refuse, _>>=_, Span}
+use Rattle.rules.specs.Tables.{Table, Order, Tri, less, same, more, look, insert, put, newer, natOrder}
 use Rattle.rules.specs.Objects.{Name}
 use Rattle.rules.specs.Passes.{One, one, relocated}
 use Rattle.rules.specs.Buffers.{tab, Up}
