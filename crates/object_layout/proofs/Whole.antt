@@ -1,15 +1,16 @@
 -- The parts of a layout together: of the object with nothing, and of a valid object. Assumes nothing.
 use mathlib.Core.Path.{_≡_, refl, sym, _∙_, ap}
+use mathlib.Core.Bool.{false}
 use mathlib.Core.List.{List, map}
 use Prim.Native.Nat.{ℕ, _+_, _-_, _*_, _≤_, _<_}
 use native.Mathlib.Omega.{arith}
 use lib.ListN.{length, take, drop, getD, length-take}
 use Rattle.rules.specs.Tokens.{upper}
 use Rattle.rules.specs.Objects.{nothing, Lab, Name, Counts}
-use Rattle.rules.specs.Buffers.{Buffers, six, tab, zeros, lay, nameRow, labRow, labelRow, view, viewLabels, layBlocks, layWords, layMarks, layLabels, layRelocs, layNames, layout, LabelsOk, Valid}
+use Rattle.rules.specs.Buffers.{Buffers, short, lentWords, six, tab, zeros, lay, nameRow, labRow, labelRow, view, viewLabels, layBlocks, layWords, layMarks, layLabels, layRelocs, layNames, layout, LabelsOk, Valid}
 use Rattle.rules.proofs.Rows.{tab-ext, lay-nil}
 use Rattle.rules.proofs.Named.{name-upper}
-use Rattle.rules.proofs.Fits.{good-length}
+use Rattle.rules.proofs.Fits.{good-length, long, lent-in-words, lent-in-marks}
 use Rattle.rules.proofs.Plain.{PlainLayout, plain-layout}
 use Rattle.object.specs.Slots.{upperRow}
 use Rattle.label_layout.specs.Laying.{Layable, LabelRoom, upperLabels, LaidLabels}
@@ -56,3 +57,16 @@ all-laid {c} {b} p q v x y z w t =
     let z = rw f at z ∙ sym (l .marks (length (p .marks))) in
     let w = rw f at w ∙ sym (l .relocs (length (p .relocs))) in
     λ i. six (x i) (y i) (z i) (u .rows i) (w i) (u .names i)
+
+-- buffers that 42 lets pass hold a valid object whose words they have room for
+pub rooms : {c : Counts} {b : Buffers} (p : Buffers) → Valid c b → short p ≡ false → c .words ≤ lentWords (p .words) (p .marks) → Rooms c p
+rooms p v e l =
+    let r = long p e in
+    record {
+      blocks = omega (arith, v .blocks .few, r .blocks);
+      words = omega (arith, lent-in-words (p .words) (p .marks));
+      marks = omega (arith, lent-in-marks (p .words) (p .marks));
+      labels = omega (arith, v .labels .few, r .labels);
+      relocs = omega (arith, v .relocs .few, r .relocs);
+      names = omega (arith, v .labels .few, r .names);
+    }

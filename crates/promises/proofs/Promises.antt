@@ -1,25 +1,28 @@
 -- WHAT IS PROVED. Each final theorem of the project, stated here and cited from its proof; the words that it uses are defined in crate `rules`.
 -- Assumes nothing.
-use Prim.Native.Nat.{ℕ, _^_, _<_}
+use Prim.Native.Nat.{ℕ, _^_, _≤_, _<_}
 use mathlib.Core.Bool.{Bool, true, false}
 use mathlib.Core.List.{List, _∷_}
 use mathlib.Core.Option.{some}
 use mathlib.Core.Path.{_≡_}
+use lib.ListN.{length, getD}
 use Rattle.rules.specs.Tokens.{Match, tokenAt}
 use Rattle.rules.specs.Patterns.{patterns, LongestMatch}
 use Rattle.rules.specs.Examples.{EveryRow}
-use Rattle.rules.specs.Base.{nowhere}
+use Rattle.rules.specs.Base.{ok, nowhere}
 use Rattle.rules.specs.Statements.{fit}
 use Rattle.rules.specs.Words as R
 use Rattle.rules.specs.Words.{Range, signed, offset, fits, reach, field, extend, Instr, word, disassemble, line, Shown}
-use Rattle.rules.specs.Objects.{Object, countsOf, Good}
-use Rattle.rules.specs.Buffers.{Buffers, view, layout}
+use Rattle.rules.specs.Objects.{Object, Counts, countsOf, flat, lookupLabel, Good}
+use Rattle.rules.specs.Buffers.{Buffers, short, lentWords, view, layout, Valid}
 use Rattle.rules.specs.Examples as Examples
 use Rattle.rules.proofs.Longest as Longest
 use Rattle.rules.proofs.Fields as Fields
 use Rattle.rules.proofs.Fields.{Width}
 use Rattle.rules.proofs.Disassembly as Disassembly
 use Rattle.rules.proofs.Laid as Laid
+use Rattle.rules.proofs.Sound as Sound
+use Rattle.rules.proofs.Fits as Fits
 use Rattle.words.specs.Fields.{encoded, meantBits, meantOffset, whole}
 use Rattle.words.specs.Instructions.{meant}
 use Rattle.words.specs.Disassembly.{meantIf, meantLine}
@@ -32,6 +35,14 @@ use Rattle.words.specs.declared.disassembly.Disassembled.{Disassembled}
 use Rattle.words.specs.declared.disassembly.Disassembled.the-variants as D
 use Rattle.words.specs.declared.disassembly.Line.{Line}
 use Rattle.words.proofs.Promises as Words
+use Rattle.object.specs.Lent.{Lent}
+use Rattle.object_check.specs.Checked as Check
+use Rattle.object_check.specs.Checked.{outcome}
+use Rattle.object_check.specs.declared.Checked.{Checked}
+use Rattle.lookup.specs.Told.{said, Reversed}
+use Rattle.lookup.specs.declared.Said.{Said}
+use Rattle.lookup.specs.declared.Found.{Found}
+use Rattle.lookup.proofs.Once as Lookup
 
 -- TOKENS. Each token is the longest match of the patterns of lex.rs at its place, at equal length of the pattern declared first:
 -- a number or register before a word. It is so of every first byte and every rest, and there is one longest match only.
@@ -66,6 +77,32 @@ encoded-shows = Disassembly.encoded-shows
 -- OBJECTS. Whatever buffers a good object is written into, the object that stands in them is that object.
 pub view-of-layout : (o : Object) (b : Buffers) → Good o → view (countsOf o) (layout o b) ≡ o
 view-of-layout = Laid.view-layout
+
+-- Two good objects with the same counts and the same layout are one.
+pub one-layout : (o p : Object) (b c : Buffers) → Good o → Good p → countsOf o ≡ countsOf p → layout o b ≡ layout p c → o ≡ p
+one-layout = Laid.layout-one
+
+-- Lent buffers that 43 lets pass hold a good object, and their counts are the object's; the words are numbers of two bytes.
+pub valid-is-good : (c : Counts) (b : Buffers) → Valid c b → ((i : ℕ) → getD (b .words) i 0 < 65536) → Good (view c b)
+valid-is-good = Sound.valid-good
+
+pub valid-has-its-counts : (c : Counts) (b : Buffers) → Valid c b → countsOf (view c b) ≡ c
+valid-has-its-counts = Sound.valid-counts
+
+-- A good object written into buffers that 42 lets pass, with lent words enough, is one that 43 lets pass.
+pub layout-is-valid : (o : Object) (b : Buffers) → Good o → short b ≡ false → length (flat (o .blocks)) ≤ lentWords (b .words) (b .marks) → Valid (countsOf o) (layout o b)
+layout-is-valid = Fits.layout-valid
+
+-- THE CODE OF LENT OBJECTS. Two answers that a contract allows are equal: `check_object`; `lookup_label`; `rev_lookup_label`.
+pub check-object-one-answer : (c : Counts) (b : Buffers) (r s : Checked) → Lent c b (ok tt) (outcome r) → Lent c b (ok tt) (outcome s) → r ≡ s
+check-object-one-answer = Check.checked-once
+
+pub lookup-label-one-answer :
+    (c : Counts) (b : Buffers) (m : List ℕ) (r s : Said) → Lent c b (ok (lookupLabel (view c b) m)) (said r) → Lent c b (ok (lookupLabel (view c b) m)) (said s) → r ≡ s
+lookup-label-one-answer = Lookup.said-once
+
+pub rev-lookup-label-one-answer : (c : Counts) (b : Buffers) (a : ℕ) (r s : Found) → Reversed c b a r → Reversed c b a s → r ≡ s
+rev-lookup-label-one-answer = Lookup.found-once
 
 -- THE CODE OF WORDS, crate `words`: an instruction's meaning is the rule's of the same name, and the contracts are the equations below.
 -- `encode`, then `try_disassemble_line`: the instruction, up to the names that share a word; and the other way round the word.

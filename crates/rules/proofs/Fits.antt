@@ -17,7 +17,7 @@ use Rattle.rules.proofs.Rows.{length-lay, getD-tab, tab-getD, look-tab,
 use Rattle.rules.proofs.Laid.{heads-back, length-heads, labels-back, reloc-rows, row-of, view-layout}
 use Rattle.rules.proofs.Runs.{From}
 use Rattle.rules.proofs.Chains.{Chain, cells-chain, in-held, total}
-use Rattle.rules.proofs.Sound.{total-tab}
+use Rattle.rules.proofs.Sound.{total-tab, valid-good, valid-counts}
 
 -- the buffers hold it
 pub record Holds (o : Object) (b : Buffers) : Type 0 where
@@ -188,7 +188,7 @@ labels-ok o x y w p q = record {
 
 -- RELOCATIONS
 
-length-relocCells : (ls : Table Name Lab) (rs : Table ℕ Name) → length (relocCells ls rs) ≡ length rs * 2
+pub length-relocCells : (ls : Table Name Lab) (rs : Table ℕ Name) → length (relocCells ls rs) ≡ length rs * 2
 length-relocCells ls [] = refl
 length-relocCells ls (r ∷ rs) = let e = length-relocCells ls rs in omega arith
 
@@ -257,19 +257,45 @@ names-fit : (t : Table Name Lab) → ((k : ℕ) → k < length t → length (get
 names-fit [] h = omega arith
 names-fit (e ∷ t) h = omega (arith, length-append (e .0) (nameBytes t), h 0 (suc-le-suc zero-le), names-fit t (λ k l. h (suc k) (suc-le-suc l)))
 
-pub holds : (o : Object) (b : Buffers) → Good o → short b ≡ false → length (flat (o .blocks)) ≤ lentWords (b .words) (b .marks) → Holds o b
-unfolding short lentWords
-holds o b g e l =
+-- what 42 lets pass
+pub record Long (b : Buffers) : Type 0 where
+  pub blocks : 128 ≤ length (b .blocks)
+  pub labels : 4096 ≤ length (b .labels)
+  pub relocs : 2048 ≤ length (b .relocs)
+  pub names : 65536 ≤ length (b .names)
+
+pub long : (b : Buffers) → short b ≡ false → Long b
+unfolding short
+long b e =
     let y = neither _ (ltb (length (b .names)) 65536) e in
     let x = neither _ (ltb (length (b .relocs)) 2048) (y .0) in
     let w = neither (ltb (length (b .blocks)) 128) (ltb (length (b .labels)) 4096) (x .0) in
     record {
-      blocks = omega (arith, g .few-blocks, ltb-false (length (b .blocks)) 128 (w .0));
-      words = omega (arith, least-left (least (length (b .words)) (length (b .marks))) 65024, least-left (length (b .words)) (length (b .marks)));
-      marks = omega (arith, least-left (least (length (b .words)) (length (b .marks))) 65024, least-right (length (b .words)) (length (b .marks)));
-      labels = omega (arith, g .few-labels, ltb-false (length (b .labels)) 4096 (w .1));
-      relocs = omega (arith, g .few-relocs, ltb-false (length (b .relocs)) 2048 (x .1));
-      names = omega (arith, g .few-labels, names-fit (o .labels) named, ltb-false (length (b .names)) 65536 (y .1));
+      blocks = ltb-false (length (b .blocks)) 128 (w .0);
+      labels = ltb-false (length (b .labels)) 4096 (w .1);
+      relocs = ltb-false (length (b .relocs)) 2048 (x .1);
+      names = ltb-false (length (b .names)) 65536 (y .1);
+    }
+
+-- the lent words lie in the word buffer and in its marks
+pub lent-in-words : (ws ms : List ℕ) → lentWords ws ms ≤ length ws
+unfolding lentWords
+lent-in-words ws ms = omega (arith, least-left (least (length ws) (length ms)) 65024, least-left (length ws) (length ms))
+
+pub lent-in-marks : (ws ms : List ℕ) → lentWords ws ms ≤ length ms
+unfolding lentWords
+lent-in-marks ws ms = omega (arith, least-left (least (length ws) (length ms)) 65024, least-right (length ws) (length ms))
+
+pub holds : (o : Object) (b : Buffers) → Good o → short b ≡ false → length (flat (o .blocks)) ≤ lentWords (b .words) (b .marks) → Holds o b
+holds o b g e l =
+    let r = long b e in
+    record {
+      blocks = omega (arith, g .few-blocks, r .blocks);
+      words = omega (arith, lent-in-words (b .words) (b .marks));
+      marks = omega (arith, lent-in-marks (b .words) (b .marks));
+      labels = omega (arith, g .few-labels, r .labels);
+      relocs = omega (arith, g .few-relocs, r .relocs);
+      names = omega (arith, g .few-labels, names-fit (o .labels) named, r .names);
     }
   where
     named : (k : ℕ) → k < length (o .labels) → length (getD (o .labels) k ([], outer) .0) ≤ 64
@@ -287,3 +313,10 @@ holds-valid o b w q = record {
 
 pub layout-valid : (o : Object) (b : Buffers) → Good o → short b ≡ false → length (flat (o .blocks)) ≤ lentWords (b .words) (b .marks) → Valid (countsOf o) (layout o b)
 layout-valid o b g e l = holds-valid o b g (holds o b g e l)
+
+-- an object that stands in valid buffers is valid again where it is laid
+pub layout-again : (c : Counts) (b p : Buffers) → Valid c b → ((i : ℕ) → getD (b .words) i 0 < 65536) → short p ≡ false → c .words ≤ lentWords (p .words) (p .marks)
+    → Valid c (layout (view c b) p)
+layout-again c b p v h e l =
+    let q = valid-counts c b v in
+    rw q at (layout-valid (view c b) p (valid-good c b v h) e (omega (arith, ap (λ (d : Counts). d .words) q)))

@@ -71,7 +71,7 @@ row-index (suc n) f s (suc k) l = go (nameOrder .tri (f (suc k) .0) (f 0 .0)) (r
     go (same e) ih = absurd (lt-ne nameOrder (f 0 .0) (f (suc k) .0) (up-lt nameOrder (suc n) f (tab-sorted nameOrder (suc n) f s) 0 (suc k) (suc-le-suc zero-le) l) (sym e))
     go (more h) ih = ap suc ih
 
-relocs-more : (ls : Table Name Lab) (s : Table ℕ Name) (r : ℕ × Name) → relocCells ls (s ++ (r ∷ [])) ≡ relocCells ls s ++ (r .0 ∷ rowOf ls (r .1) ∷ [])
+pub relocs-more : (ls : Table Name Lab) (s : Table ℕ Name) (r : ℕ × Name) → relocCells ls (s ++ (r ∷ [])) ≡ relocCells ls s ++ (r .0 ∷ rowOf ls (r .1) ∷ [])
 relocs-more ls [] r = refl
 relocs-more ls (d ∷ s) r = ap (λ (x : List ℕ). d .0 ∷ rowOf ls (d .1) ∷ x) (relocs-more ls s r)
 

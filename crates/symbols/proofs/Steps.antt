@@ -22,7 +22,8 @@ use Rattle.object.specs.Slots.{Rising, Slotted}
 use Rattle.object.specs.declared.Slot.{Slot}
 use Rattle.object.specs.declared.Slot.the-variants.{Taken, Free}
 use Rattle.symbols.specs.Symbols.{nameFrom, entry, symbolRow, symbols, Cells, Growing, InsertAt, Inserted}
-use Rattle.symbols.specs.Adding.{namedAt, outcome, Ready, Adding}
+use Rattle.symbols.specs.Adding.{namedAt, outcome, Ready, Adding, Found}
+use Rattle.symbols.specs.declared.Row.the-variants.{At, Nothing}
 use Rattle.symbols.specs.declared.Added.{Added}
 use Rattle.symbols.specs.declared.Added.the-variants.{Held, Clash, Full}
 
@@ -68,11 +69,11 @@ unsaid rs src n p x t e = look-none nameOrder n (symbolRow rs src) x go
     ]
 
 module _ {rs src : List ℕ} {n : ℕ} {x : Name} {r : Slot} (v : Growing rs src n) (t : Slotted rs src n x r) where
-  pub found-row : {k : ℕ} → r ≡ Taken k → some (symbolRow rs src k .1) ≡ look nameOrder (symbols n rs src) x
-  found-row {k} e = let u = t .taken k e in sym (said rs src n k x v (u .0) (u .1))
+  pub found-row : {k : ℕ} → r ≡ Taken k → Found n rs src x (At k)
+  found-row {k} e = let u = t .taken k e in record { says = sym (said rs src n k x v (u .0) (u .1)); row = λ j q. (let y : k ≡ j = cc in rw y at (t .taken k e)) }
 
-  pub found-none : {p : ℕ} → r ≡ Free p → none ≡ look nameOrder (symbols n rs src) x
-  found-none {p} e = sym (unsaid rs src n p x t e)
+  pub found-none : {p : ℕ} → r ≡ Free p → Found n rs src x Nothing
+  found-none {p} e = record { says = sym (unsaid rs src n p x t e); row = λ j q. (let y : _≡_ {A = ℕ} 0 1 = cc in absurd (omega arith)) }
 
 count : (n : ℕ) (rs src : List ℕ) → length (symbols n rs src) ≡ n
 unfolding symbols

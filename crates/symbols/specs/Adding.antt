@@ -2,10 +2,10 @@
 use mathlib.Core.Path.{_≡_}
 use mathlib.Core.List.{List}
 use mathlib.Core.Option.{Option, none, some}
-use Prim.Native.Nat.{ℕ, _+_, _≤_}
+use Prim.Native.Nat.{ℕ, _+_, _≤_, _<_}
 use lib.ListN.{length}
 use Rattle.rules.specs.Base.{Outcome, ok, refuse, refuse2, Span, span}
-use Rattle.rules.specs.Tables.{Table}
+use Rattle.rules.specs.Tables.{Table, look, nameOrder}
 use Rattle.rules.specs.Objects.{Name}
 use Rattle.rules.specs.Statements as S
 use Rattle.rules.specs.Passes.{Symbol, addName}
@@ -40,3 +40,8 @@ pub record Adding (rs src rs′ : List ℕ) (n a f s l : ℕ) (r : Added) : Type
 abbrev pub found : (rs src : List ℕ) → Row → Option Symbol
 found rs src (At k) = some (symbolRow rs src k .1)
 found rs src Nothing = none
+
+-- what the table says of a name, and the row that has it
+pub record Found (n : ℕ) (rs src : List ℕ) (x : Name) (r : Row) : Type 0 where
+  pub says : found rs src r ≡ look nameOrder (symbols n rs src) x
+  pub row : (k : ℕ) → r ≡ At k → (k < n) × (symbolRow rs src k .0 ≡ x)

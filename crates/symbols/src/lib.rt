@@ -2,11 +2,11 @@
 ghost use mathlib.Core.Path.{_≡_};
 ghost use Prim.Native.Nat.{_+_, _*_, _≤_};
 ghost use lib.ListN.{length, getD};
-ghost use Rattle.rules.specs.Tables.{look, mapT, nameOrder};
+ghost use Rattle.rules.specs.Tables.{mapT};
 ghost use Rattle.label_layout.specs.Laying.{LabelRoom, LaidLabels};
 ghost use Rattle.object.specs.Slots.{Slotted};
 ghost use Rattle.symbols.specs.Symbols.{symbols, Growing, InsertAt, Inserted, nameFrom};
-ghost use Rattle.symbols.specs.Adding.{found, Ready, Adding};
+ghost use Rattle.symbols.specs.Adding.{Found, Ready, Adding};
 use object::Slot;
 
 // What becomes of a name at an address: the table has so many rows, with it; row k has it at another address; or no row is left.
@@ -50,7 +50,7 @@ fn slot_at(rows: &[u32], src: &[u8], n: usize, start: u32, size: u32) -> Slot
 // What the table says of the name at `start` of the source, `size` bytes long: the row that has it.
 pub fn find_symbol(rows: &[u32], src: &[u8], n: usize, start: u32, size: u32) -> Row
     requires { ⌜ Growing (now rows) (now src) n × (start + size ≤ length (now src)) ⌝ }
-    ensures { λ r. ⌜ found (now (rows .entry)) (now (src .entry)) r ≡ look nameOrder (symbols n (now (rows .entry)) (now (src .entry))) (nameFrom (now (src .entry)) start size) ⌝ }
+    ensures { λ r. ⌜ Found n (now (rows .entry)) (now (src .entry)) (nameFrom (now (src .entry)) start size) r ⌝ }
 {
     match slot_at(rows, src, n, start, size) {
         Slot::Taken(k) => Row::At(k),

@@ -1,0 +1,3 @@
+pub mod Halving
+pub mod Steps
+pub mod Laid

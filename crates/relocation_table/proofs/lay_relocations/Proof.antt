@@ -1,0 +1,15 @@
+-- `relocation_table::lay_relocations` meets its contract. Assumes nothing.
+use Rattle.label_layout.proofs.Loop.{blank-of}
+use Rattle.relocation_table.proofs.Laid.{room-after, laid-after}
+use borrow.Author.Needs.{needs}
+use Rattle.relocation_table.proofs.lay_relocations.Statement.{statement}
+use Rattle.relocation_table.proofs.lay_relocations.Tie as tie
+
+pub lay-relocations-spec : {M : Type 1} → statement M
+lay-relocations-spec =
+    tie.close
+    (tie.spec
+    (λ c κs. search needs)
+    (λ c κs. (search needs, search (needs, room-after), search (needs, blank-of)))
+    (λ c. search needs)
+    (λ c. search (needs, laid-after)))

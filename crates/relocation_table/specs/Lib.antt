@@ -1,0 +1,3 @@
+-- What the contracts of `relocation_table` cite beside the rules. Assumes nothing.
+pub mod Pending
+pub mod Resolved
