@@ -25,3 +25,6 @@ pub mod Plain
 pub mod Named
 pub mod Fields
 pub mod Disassembly
+pub mod Walking
+pub mod Ahead
+pub mod Following

@@ -5,6 +5,7 @@ use Prim.Native.String.{String}
 use Prim.Native.String as S
 use mathlib.Core.Bool.{Bool, true, false, _&&_, _||_, not}
 use mathlib.Core.List.{List, [], _∷_, _++_}
+use mathlib.Core.Option.{Option, none, some}
 use lib.Dec.{eqb, leb, ltb}
 
 infix 10 if_then_else_
@@ -78,3 +79,8 @@ same [] [] = true
 same [] (y ∷ ys) = false
 same (x ∷ xs) [] = false
 same (x ∷ xs) (y ∷ ys) = eqb x y && same xs ys
+
+-- there is a value
+abbrev pub has : {U : Type 0} → Option U → Bool
+has none = false
+has (some u) = true

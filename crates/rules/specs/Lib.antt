@@ -5,8 +5,8 @@ pub mod Tokens
 pub mod Regex
 pub mod Patterns
 pub mod Words
-pub mod Statements
 pub mod Tables
+pub mod Statements
 pub mod Objects
 pub mod Buffers
 pub mod Passes

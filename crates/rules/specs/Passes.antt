@@ -5,47 +5,24 @@ use mathlib.Core.List.{List, [], _∷_, _++_, map}
 use mathlib.Core.Option.{Option, none, some}
 use lib.ListN.{length, replicate}
 use lib.Dec.{eqb, leb, ltb}
-use Rattle.rules.specs.Base.{if_then_else_, Outcome, ok, refused, _>>=_, _>>_, require, refuse, refuse2, Span, span, nowhere}
+use Rattle.rules.specs.Base.{if_then_else_, Outcome, ok, refused, _>>=_, _>>_, require, refuse, refuse2, Span, span, nowhere, has}
 use Rattle.rules.specs.Capacities.{blockRoom, labelRoom, relocRoom}
 use Rattle.rules.specs.Tokens.{lexed}
 use Rattle.rules.specs.Words.{Range, offset, fits, field, Op, instr, orig, fill, blkw, stringz, end, external}
 use Rattle.rules.specs.Statements as S
-use Rattle.rules.specs.Statements.{Target, Piece, bits, target, chars, Stmt, statements}
-use Rattle.rules.specs.Tables.{Table, natOrder, nameOrder, look, has, insert, newer, mapT}
+use Rattle.rules.specs.Statements.{Target, Stmt, statements}
+use Rattle.rules.specs.Tables.{Table, natOrder, nameOrder, look, insert, newer, mapT}
 use Rattle.rules.specs.Objects.{Cell, unset, word, Lab, outer, defined, addressOf, Name, Object, object}
 
--- A STATEMENT'S PARTS
-
--- the bits that its operands give
-unfoldable pub bitsOf : List Piece → ℕ
-bitsOf [] = 0
-bitsOf (bits n ∷ ps) = n + bitsOf ps
-bitsOf (target t ∷ ps) = bitsOf ps
-bitsOf (chars s ∷ ps) = bitsOf ps
-
--- its label operand
-unfoldable pub targetOf : List Piece → Option Target
-targetOf [] = none
-targetOf (bits n ∷ ps) = targetOf ps
-targetOf (target t ∷ ps) = some t
-targetOf (chars s ∷ ps) = targetOf ps
-
--- its string
-unfoldable pub charsOf : List Piece → List ℕ
-charsOf [] = []
-charsOf (bits n ∷ ps) = charsOf ps
-charsOf (target t ∷ ps) = charsOf ps
-charsOf (chars s ∷ ps) = s
-
--- how many words it takes
-unfoldable pub sizeOf : Op → List Piece → ℕ
-sizeOf instr ps = 1
-sizeOf fill ps = 1
-sizeOf blkw ps = bitsOf ps
-sizeOf stringz ps = length (charsOf ps) + 1
-sizeOf orig ps = 0
-sizeOf end ps = 0
-sizeOf external ps = 0
+-- how many words a statement takes
+unfoldable pub sizeOf : Op → Stmt → ℕ
+sizeOf instr s = 1
+sizeOf fill s = 1
+sizeOf blkw s = s .bits
+sizeOf stringz s = length (s .chars) + 1
+sizeOf orig s = 0
+sizeOf end s = 0
+sizeOf external s = 0
 
 -- PASS ONE
 
@@ -121,22 +98,22 @@ closed c p o =
     else refuse 40 p
 
 -- then directive: 24 of both .orig, 23 of an .end,
-unfoldable pub directed : Op → List Piece → Span → One → Outcome One
-directed instr ps p o = ok o
-directed blkw ps p o = ok o
-directed stringz ps p o = ok o
-directed orig ps p o = elim (o .cursor) [
-  | some c ↦ refuse2 24 (c .place) p
-  | none ↦ ok (one (some (record { start = bitsOf ps; counter = bitsOf ps; place = p })) (o .symbols) (o .relocs) (o .blocks) (o .words))
+unfoldable pub directed : Op → Stmt → One → Outcome One
+directed instr s o = ok o
+directed blkw s o = ok o
+directed stringz s o = ok o
+directed orig s o = elim (o .cursor) [
+  | some c ↦ refuse2 24 (c .place) (s .place)
+  | none ↦ ok (one (some (record { start = s .bits; counter = s .bits; place = s .place })) (o .symbols) (o .relocs) (o .blocks) (o .words))
 ]
-directed end ps p o = elim (o .cursor) [ none ↦ refuse 23 p | some c ↦ closed c p o ]
-directed external ps p o = elim (targetOf ps) [
+directed end s o = elim (o .cursor) [ none ↦ refuse 23 (s .place) | some c ↦ closed c (s .place) o ]
+directed external s o = elim (s .target) [
   | none ↦ ok o
   | some t ↦ do
-    ss ← addName outer p (t .name) (o .symbols)
+    ss ← addName outer (s .place) (t .name) (o .symbols)
     ok (one (o .cursor) ss (o .relocs) (o .blocks) (o .words))
 ]
-directed fill ps p o = elim (targetOf ps) [ none ↦ ok o | some t ↦ filled (t .name) p o ]
+directed fill s o = elim (s .target) [ none ↦ ok o | some t ↦ filled (t .name) (s .place) o ]
 
 -- then advance. The counter may reach xFE00; a sum from xFE01 to x10000 is 27, above x10000 is 26. A size of 0 never refuses.
 unfoldable pub advanced : ℕ → Span → One → Outcome One
@@ -155,8 +132,8 @@ unfoldable pub passOne : List Stmt → One → Outcome One
 passOne [] o = elim (o .cursor) [ none ↦ ok o | some c ↦ refuse 22 (c .place) ]
 passOne (s ∷ ss) o = do
   a ← labelled (s .labels) (s .place) o
-  b ← directed (s .op) (s .pieces) (s .place) a
-  c ← advanced (sizeOf (s .op) (s .pieces)) (s .place) b
+  b ← directed (s .op) s a
+  c ← advanced (sizeOf (s .op) s) (s .place) b
   passOne ss c
 
 -- PASS TWO
@@ -177,23 +154,23 @@ offsetTo ss pc t = elim (look nameOrder ss (t .name .text)) [
 ]
 
 -- the words of a statement at an address; .blkw words are unset
-unfoldable pub wordsOf : Table Name Symbol → ℕ → Op → List Piece → Outcome (List Cell)
-wordsOf ss a orig ps = ok []
-wordsOf ss a end ps = ok []
-wordsOf ss a external ps = ok []
-wordsOf ss a blkw ps = ok (replicate (bitsOf ps) unset)
-wordsOf ss a stringz ps = ok (map word (charsOf ps ++ 0 ∷ []))
-wordsOf ss a fill ps = elim (targetOf ps) [
-  | none ↦ ok (word (bitsOf ps) ∷ [])
+unfoldable pub wordsOf : Table Name Symbol → ℕ → Op → Stmt → Outcome (List Cell)
+wordsOf ss a orig s = ok []
+wordsOf ss a end s = ok []
+wordsOf ss a external s = ok []
+wordsOf ss a blkw s = ok (replicate (s .bits) unset)
+wordsOf ss a stringz s = ok (map word (s .chars ++ 0 ∷ []))
+wordsOf ss a fill s = elim (s .target) [
+  | none ↦ ok (word (s .bits) ∷ [])
   | some t ↦ do
     n ← address ss (t .name)
     ok (word n ∷ [])
 ]
-wordsOf ss a instr ps = elim (targetOf ps) [
-  | none ↦ ok (word (bitsOf ps) ∷ [])
+wordsOf ss a instr s = elim (s .target) [
+  | none ↦ ok (word (s .bits) ∷ [])
   | some t ↦ do
     n ← offsetTo ss (a + 1) t
-    ok (word (bitsOf ps + n) ∷ [])
+    ok (word (s .bits + n) ∷ [])
 ]
 
 -- a block written: its start, words and .orig
@@ -232,11 +209,11 @@ place x (y ∷ ys) =
       ok (y ∷ zs)
 
 -- 21: a statement outside every block
-unfoldable pub emit : Table Name Symbol → Op → List Piece → Span → Two → Outcome Two
-emit ss o ps p t = elim (t .current) [
-  | none ↦ refuse 21 p
+unfoldable pub emit : Table Name Symbol → Stmt → Two → Outcome Two
+emit ss s t = elim (t .current) [
+  | none ↦ refuse 21 (s .place)
   | some x ↦ do
-    ws ← wordsOf ss (x .start + length (x .words)) o ps
+    ws ← wordsOf ss (x .start + length (x .words)) (s .op) s
     ok (two (some (placed (x .start) (x .words ++ ws) (x .place))) (t .blocks))
 ]
 
@@ -251,19 +228,19 @@ finish t = elim (t .current) [
         ok (two none bs)
 ]
 
-unfoldable pub written : Table Name Symbol → Op → List Piece → Span → Two → Outcome Two
-written ss orig ps p t = ok (two (some (placed (bitsOf ps) [] p)) (t .blocks))
-written ss end ps p t = finish t
-written ss external ps p t = ok t
-written ss instr ps p t = emit ss instr ps p t
-written ss fill ps p t = emit ss fill ps p t
-written ss blkw ps p t = emit ss blkw ps p t
-written ss stringz ps p t = emit ss stringz ps p t
+unfoldable pub written : Table Name Symbol → Op → Stmt → Two → Outcome Two
+written ss orig s t = ok (two (some (placed (s .bits) [] (s .place))) (t .blocks))
+written ss end s t = finish t
+written ss external s t = ok t
+written ss instr s t = emit ss s t
+written ss fill s t = emit ss s t
+written ss blkw s t = emit ss s t
+written ss stringz s t = emit ss s t
 
 unfoldable pub passTwo : Table Name Symbol → List Stmt → Two → Outcome Two
 passTwo ss [] t = ok t
 passTwo ss (s ∷ rest) t = do
-  u ← written ss (s .op) (s .pieces) (s .place) t
+  u ← written ss (s .op) s t
   passTwo ss rest u
 
 -- THE WHOLE
@@ -272,13 +249,13 @@ passTwo ss (s ∷ rest) t = do
 -- 41 is given exactly when the words of all blocks together exceed the lent words, `room`.
 unfoldable pub assemble : ℕ → List ℕ → Outcome Object
 assemble room source = do
-  ts ← lexed source
-  ss ← statements ts
+  lexed source
+  ss ← statements source
   o ← passOne ss (one none [] [] 0 0)
   require (leb (o .words) room) 41 nowhere
   t ← passTwo (o .symbols) ss (two none [])
   ok (object (map (λ b. (b .start, b .words)) (t .blocks)) (mapT (λ n s. s .lab) (o .symbols)) (o .relocs))
 
 unfoldable pub assembling : Unit {0}
-unfolding bitsOf targetOf charsOf sizeOf addName addNames labelled relocated filled closed directed advanced passOne address offset fits field reached offsetTo wordsOf overlap overlapping place emit finish written passTwo assemble
+unfolding sizeOf addName addNames labelled relocated filled closed directed advanced passOne address offset fits field reached offsetTo wordsOf overlap overlapping place emit finish written passTwo assemble
 assembling = tt

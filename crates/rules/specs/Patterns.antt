@@ -40,7 +40,7 @@ abbrev row : Regex → (List ℕ → Found) → Row
 row r f = record { pattern = r; make = λ m s. match (f m) (length m) }
 
 -- Above each row stands its line of lex.rs. At equal length the row declared first wins, as a generator of lexers has it; document 01 says so
--- of the rows that can tie: "At equal length a number or register goes before a word."
+-- where two rows do tie: "At equal length a number or register goes before a word."
 unfoldable pub patterns : List Row
 patterns =
     -- #[logos(skip r"[ \t]+", error = LexErr)]
@@ -139,8 +139,3 @@ tokensByFrom zero i (c ∷ s) = do
 
 unfoldable pub tokensBy : List ℕ → Outcome (List Token)
 tokensBy s = tokensByFrom 0 0 s
-
--- whoever unfolds `tabled` unfolds every definition of this module
-unfoldable pub tabled : Unit {0}
-unfolding matching lexing patterns best tokenBy tokensByFrom tokensBy
-tabled = tt

@@ -116,11 +116,6 @@ module _ {K U : Type 0} (O : Order K) where
   merge f [] t = t
   merge f (d ∷ s) t = insert f d (merge f s t)
 
--- there is a value
-abbrev pub has : {U : Type 0} → Option U → Bool
-has none = false
-has (some u) = true
-
 -- of two values for a key, the one put in now
 abbrev pub newer : {U : Type 0} → U → U → U
 newer u v = u

@@ -19,7 +19,7 @@ pub data Kind : Type 0 where
   register mark : ℕ → Kind
   word directive text : List ℕ → Kind
 
--- what the longest match is: spaces, tabs and comments are blank; bad n is refused with n, 1 to 10
+-- what the longest match is. Spaces and tabs are skipped, and comments: they are blank. bad n is refused with n, 1 to 10.
 pub data Found : Type 0 where
   token : Kind → Found
   blank : Found
@@ -33,7 +33,7 @@ pub record Match : Type 0 where
 abbrev pub match : Found → ℕ → Match
 match f n = record { found = f; size = n }
 
--- \d, \w and the letters
+-- the classes \d, letters with the underscore, \w, and blanks
 unfoldable pub digit : ℕ → Bool
 digit c = within "0" "9" c
 
@@ -46,10 +46,11 @@ wordy c = digit c || letter c
 unfoldable pub space : ℕ → Bool
 space c = is " " c || is "\t" c
 
+-- words are matched in upper case
 unfoldable pub upper : ℕ → ℕ
 upper c = if within "a" "z" c then c - 32 else c
 
--- a digit's value; 99 of any other byte
+-- a digit's value, of ten or sixteen; 99 of any other byte
 unfoldable pub value : ℕ → ℕ
 value c =
     if digit c then c - 48
@@ -61,7 +62,7 @@ unfoldable pub while : (ℕ → Bool) → List ℕ → List ℕ
 while p [] = []
 while p (c ∷ s) = elim (p c) [ true ↦ c ∷ while p s | false ↦ [] ]
 
--- the list's first byte is this character
+-- the list begins with a byte that passes a test
 unfoldable pub begins : (ℕ → Bool) → List ℕ → Bool
 begins p [] = false
 begins p (c ∷ s) = p c
@@ -105,17 +106,20 @@ unfoldable pub read : Form → List ℕ → Found
 read f [] = bad (f .none)
 read f (c ∷ s) = digits f 0 (c ∷ s)
 
--- a prefix of n bytes, then a number: as many word characters as there are
+-- a prefix of n bytes, then a number: as many word characters as there are. `x1G` is 3; `#` alone and `-` alone are 6, `x-` is 5;
+-- `9999g` is 4, `99999g` is 1.
 unfoldable pub numberAfter : ℕ → Form → List ℕ → Match
 numberAfter n f s = let r = while wordy s in match (read f r) (n + length r)
 
--- a prefix that no number has, then word characters
+-- a prefix that no number has, then word characters: `##5` and `-#5` are 4
 unfoldable pub wrongAfter : ℕ → List ℕ → Match
 wrongAfter n s = match (bad 4) (n + length (while wordy s))
 
+-- a word: a label or a reserved word
 unfoldable pub wordAt : List ℕ → Match
 wordAt s = let r = while wordy s in match (token (word (map upper r))) (length r)
 
+-- a directive after its dot
 unfoldable pub directiveAfter : List ℕ → Match
 directiveAfter s = let r = while wordy s in match (token (directive (map upper r))) (1 + length r)
 
@@ -135,26 +139,26 @@ afterMinus s =
     if eqb h 0 then numberAfter 1 decNeg s
     else wrongAfter (h + 1) (drop h s)
 
--- [Xx][\dA-Fa-f]\w*  [Xx]-\w*, and else a word
+-- [Xx][\dA-Fa-f]\w*  [Xx]-\w*, and else a word: `x` or `xyz` is a word
 unfoldable pub afterX : ℕ → List ℕ → Match
 afterX c s =
     if begins (is "-") s then numberAfter 2 hexNeg (drop 1 s)
     else if begins (λ d. ltb (value d) 16) s then numberAfter 1 hex s
     else wordAt (c ∷ s)
 
--- [Rr]\d+ where no more word characters follow, and else a word
+-- [Rr]\d+ where no more word characters follow, and else a word: `R8` is 9, `R8x` is a word, `R007` is register 7
 unfoldable pub afterR : ℕ → List ℕ → Match
 afterR c s =
     if begins digit s && not (begins wordy (drop (length (while digit s)) s)) then numberAfter 1 reg s
     else wordAt (c ∷ s)
 
--- a line's rest: up to LF or CR LF
+-- a line's rest: to end of line, before LF or CR LF
 unfoldable pub line : List ℕ → List ℕ
 line [] = []
 line (c ∷ s) =
     elim (is "\n" c || (is "\r" c && begins (is "\n") s)) [ true ↦ [] | false ↦ c ∷ line s ]
 
--- what the backslash and the character after it stand for
+-- In a string `\n \r \t \\ \0 \"` stand for one character; before any other character the backslash stays.
 unfoldable pub escape : ℕ → List ℕ
 escape c =
     if is "n" c then 10 ∷ []
@@ -182,6 +186,7 @@ quoted false (c ∷ s) =
     else if is "\\" c then put [] (quoted true s)
     else put (c ∷ []) (quoted false s)
 
+-- 7: quote to end of line. At most 65,534 characters result, else 8.
 unfoldable pub afterQuote : List ℕ → Match
 afterQuote s =
     elim (quoted false (line s)) [
@@ -189,7 +194,8 @@ afterQuote s =
       | closed t n ↦ match (if leb (length t) 65534 then token (text t) else bad 8) (1 + n)
     ]
 
--- the token that begins with the byte c and goes on in s
+-- The token that begins with the byte c and goes on in s. A comment runs to the line feed, a carriage return included;
+-- elsewhere, but in a string, a carriage return without a line feed is 10.
 unfoldable pub tokenAt : ℕ → List ℕ → Match
 tokenAt c s =
     if digit c then numberAfter 0 dec (c ∷ s)

@@ -1,0 +1,1 @@
+-- What the contracts of `listing_lines` cite beside the rules. Assumes nothing.
