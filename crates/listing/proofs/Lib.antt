@@ -1,0 +1,2 @@
+-- Laws that the proofs of `listing` cite. Assumes nothing.
+pub mod Texts

@@ -1,0 +1,2 @@
+-- What the contracts of `listing` cite beside the rules. Assumes nothing.
+pub mod Fronts

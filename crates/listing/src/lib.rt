@@ -1,0 +1,77 @@
+// The listing of an object as bytes.
+ghost use mathlib.Core.Path.{_≡_};
+ghost use mathlib.Core.List.{_++_, flatMap};
+ghost use Prim.Native.Nat.{_+_, _*_, _<_, _≤_};
+ghost use lib.ListN.{length, getD};
+ghost use Rattle.rules.specs.Buffers.{BlocksOk, WordsOk, LabelRow, LabelsOk, viewBlocks, viewLabels, labelRow, nameRow};
+ghost use Rattle.rules.specs.Listing.{labelLine, relocLine, blockLines, hex4};
+ghost use Rattle.listing_lines.specs.Appended.{Appended};
+ghost use Rattle.listing_lines.specs.Lines.{cellLines, headLine};
+ghost use Rattle.listing.specs.Fronts.{labelFront, relocFront, blockText};
+
+// A block's lines.
+pub fn put_block(out: &mut [u8], at: usize, start: u16, words: &[u16], marks: &[u8]) -> usize
+    requires { ⌜ start + length (now words) ≤ 65024 ⌝ }
+    requires { ⌜ length (now words) ≡ length (now marks) ⌝ }
+    requires { ⌜ at + length (blockText start (now words) (now marks)) ≤ length (now out) ⌝ }
+    ensures { λ r. ⌜ Appended (now (out .entry)) (now (out .exit)) at r (blockText start (now (words .entry)) (now (marks .entry))) ⌝ }
+{
+    let size = words.len() as u16;
+    let line = listing_lines::block_line(start, size);
+    let next = listing_lines::put_text(out, at, &line);
+    listing_lines::put_cells(out, next, start, words, marks)
+}
+
+// What a defined label's line begins with.
+fn label_front(address: u16) -> [u8; 11]
+    ensures { λ r. ⌜ r ≡ labelFront address ⌝ }
+{
+    let a = listing_lines::hex4_of(address);
+    [76, 65, 66, 69, 76, 32, a[0], a[1], a[2], a[3], 32]
+}
+
+// What a relocation's line begins with.
+fn relocation_front(address: u16) -> [u8; 9]
+    ensures { λ r. ⌜ r ≡ relocFront address ⌝ }
+{
+    let a = listing_lines::hex4_of(address);
+    [82, 69, 76, 32, a[0], a[1], a[2], a[3], 32]
+}
+
+fn narrow(x: u32) -> u16
+    requires { ⌜ x < 65536 ⌝ }
+    ensures { λ r. ⌜ r ≡ x ⌝ }
+{
+    x as u16
+}
+
+// The line of label row k.
+fn put_label(out: &mut [u8], at: usize, labels: &[u32], names: &[u8], k: usize) -> usize
+    requires { ⌜ k * 4 + 4 ≤ length (now labels) ⌝ }
+    requires { ⌜ getD (now labels) (k * 4) 0 < 65536 ⌝ }
+    requires { ⌜ at + length (labelLine (labelRow (now labels) (now names) k)) ≤ length (now out) ⌝ }
+    ensures { λ r. ⌜ Appended (now (out .entry)) (now (out .exit)) at r (labelLine (labelRow (now (labels .entry)) (now (names .entry)) k)) ⌝ }
+{
+    let i = k * 4;
+    let name = object::label_name(labels, names, k);
+    if labels[i + 1] == 0 {
+        let front = label_front(narrow(labels[i]));
+        return listing_lines::put_line(out, at, &front, name);
+    }
+    listing_lines::put_line(out, at, b"EXTERN ", name)
+}
+
+// The lines of the first n labels.
+fn put_labels(out: &mut [u8], at: usize, labels: &[u32], names: &[u8], n: usize) -> usize
+    requires { ⌜ LabelsOk n (now labels) (now names) ⌝ }
+    requires { ⌜ at + length (flatMap labelLine (viewLabels n (now labels) (now names))) ≤ length (now out) ⌝ }
+    ensures { λ r. ⌜ Appended (now (out .entry)) (now (out .exit)) at r (flatMap labelLine (viewLabels n (now (labels .entry)) (now (names .entry)))) ⌝ }
+{
+    let mut k = 0;
+    let mut end = at;
+    while k < n {
+        end = put_label(out, end, labels, names, k);
+        k += 1;
+    }
+    end
+}
