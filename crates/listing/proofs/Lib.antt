@@ -1,2 +1,3 @@
 -- Laws that the proofs of `listing` cite. Assumes nothing.
 pub mod Texts
+pub mod Blocks

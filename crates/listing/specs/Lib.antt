@@ -1,2 +1,3 @@
 -- What the contracts of `listing` cite beside the rules. Assumes nothing.
 pub mod Fronts
+pub mod Low

@@ -1,13 +1,13 @@
 // The listing of an object as bytes.
 ghost use mathlib.Core.Path.{_≡_};
-ghost use mathlib.Core.List.{_++_, flatMap};
+ghost use mathlib.Core.List.{flatMap};
 ghost use Prim.Native.Nat.{_+_, _*_, _<_, _≤_};
 ghost use lib.ListN.{length, getD};
-ghost use Rattle.rules.specs.Buffers.{BlocksOk, WordsOk, LabelRow, LabelsOk, viewBlocks, viewLabels, labelRow, nameRow};
-ghost use Rattle.rules.specs.Listing.{labelLine, relocLine, blockLines, hex4};
+ghost use Rattle.rules.specs.Buffers.{BlocksOk, WordsOk, LabelsOk, viewBlocks, viewLabels, viewRelocs, labelRow, relocRow};
+ghost use Rattle.rules.specs.Listing.{labelLine, relocLine, blockLines};
 ghost use Rattle.listing_lines.specs.Appended.{Appended};
-ghost use Rattle.listing_lines.specs.Lines.{cellLines, headLine};
 ghost use Rattle.listing.specs.Fronts.{labelFront, relocFront, blockText};
+ghost use Rattle.listing.specs.Low.{RelocsLow};
 
 // A block's lines.
 pub fn put_block(out: &mut [u8], at: usize, start: u16, words: &[u16], marks: &[u8]) -> usize
@@ -45,6 +45,18 @@ fn narrow(x: u32) -> u16
     x as u16
 }
 
+fn wide(x: u32) -> usize
+    ensures { λ r. ⌜ r ≡ x ⌝ }
+{
+    x as usize
+}
+
+fn wide16(x: u16) -> usize
+    ensures { λ r. ⌜ r ≡ x ⌝ }
+{
+    x as usize
+}
+
 // The line of label row k.
 fn put_label(out: &mut [u8], at: usize, labels: &[u32], names: &[u8], k: usize) -> usize
     requires { ⌜ k * 4 + 4 ≤ length (now labels) ⌝ }
@@ -71,6 +83,79 @@ fn put_labels(out: &mut [u8], at: usize, labels: &[u32], names: &[u8], n: usize)
     let mut end = at;
     while k < n {
         end = put_label(out, end, labels, names, k);
+        k += 1;
+    }
+    end
+}
+
+// The line of relocation row k.
+fn put_relocation(
+    out: &mut [u8],
+    at: usize,
+    relocations: &[u32],
+    labels: &[u32],
+    names: &[u8],
+    k: usize,
+) -> usize
+    requires { ⌜ k * 2 + 2 ≤ length (now relocations) ⌝ }
+    requires { ⌜ getD (now relocations) (k * 2) 0 < 65536 ⌝ }
+    requires { ⌜ at + length (relocLine (relocRow (now relocations) (now labels) (now names) k)) ≤ length (now out) ⌝ }
+    ensures { λ r. ⌜ Appended (now (out .entry)) (now (out .exit)) at r (relocLine (relocRow (now (relocations .entry)) (now (labels .entry)) (now (names .entry)) k)) ⌝ }
+{
+    let i = k * 2;
+    let row = wide(relocations[i + 1]);
+    let name = object::label_name(labels, names, row);
+    let front = relocation_front(narrow(relocations[i]));
+    listing_lines::put_line(out, at, &front, name)
+}
+
+// The lines of the first n relocations.
+fn put_relocations(
+    out: &mut [u8],
+    at: usize,
+    relocations: &[u32],
+    labels: &[u32],
+    names: &[u8],
+    n: usize,
+) -> usize
+    requires { ⌜ RelocsLow n (now relocations) ⌝ }
+    requires { ⌜ at + length (flatMap relocLine (viewRelocs n (now relocations) (now labels) (now names))) ≤ length (now out) ⌝ }
+    ensures { λ r. ⌜ Appended (now (out .entry)) (now (out .exit)) at r (flatMap relocLine (viewRelocs n (now (relocations .entry)) (now (labels .entry)) (now (names .entry)))) ⌝ }
+{
+    let mut k = 0;
+    let mut end = at;
+    while k < n {
+        end = put_relocation(out, end, relocations, labels, names, k);
+        k += 1;
+    }
+    end
+}
+
+// The lines of the first n blocks.
+fn put_blocks(
+    out: &mut [u8],
+    at: usize,
+    blocks: &[u16],
+    n: usize,
+    words: &[u16],
+    marks: &[u8],
+    w: usize,
+) -> usize
+    requires { ⌜ BlocksOk n w (now blocks) ⌝ }
+    requires { ⌜ WordsOk w (now words) (now marks) ⌝ }
+    requires { ⌜ at + length (flatMap blockLines (viewBlocks n w (now blocks) (now words) (now marks))) ≤ length (now out) ⌝ }
+    ensures { λ r. ⌜ Appended (now (out .entry)) (now (out .exit)) at r (flatMap blockLines (viewBlocks n w (now (blocks .entry)) (now (words .entry)) (now (marks .entry)))) ⌝ }
+{
+    let mut k = 0;
+    let mut end = at;
+    let mut first = 0;
+    while k < n {
+        let i = k * 2;
+        let start = blocks[i];
+        let size = wide16(blocks[i + 1]);
+        let stop = first + size;
+        end = put_block(out, end, start, &words[first..stop], &marks[first..stop]);
+        first = stop;
         k += 1;
     }
     end
