@@ -39,10 +39,7 @@ add-stop : tie.Need-add-stop Inv-loop μ-loop
 add-stop c = let room = part-words _ _ _ _ _ _ _ (c .before .before .before .before .before .before .before .before .before .pre .0) (c .before .before .before .before .before .before .before .before .before .pre .1 .0) (c .before .before .before .before .before .before .before .before .before .pre .1 .1) _ _ _ _ _ (c .before .before .before .before .loop .inv) (c .before .before .before .loop-test .taken) (c .wide16 .ensures) in search needs
 
 mul-put-block : tie.Need-mul-put-block Inv-loop μ-loop
-mul-put-block c =
-    let few = c .before .before .before .before .before .before .before .before .before .before .pre .0 .few in
-    let more = c .before .before .before .before .loop-test .taken in
-    search needs
+mul-put-block c = let room = part-words _ _ _ _ _ _ _ (c .before .before .before .before .before .before .before .before .before .before .pre .0) (c .before .before .before .before .before .before .before .before .before .before .pre .1 .0) (c .before .before .before .before .before .before .before .before .before .before .pre .1 .1) _ _ _ _ _ (c .before .before .before .before .before .loop .inv) (c .before .before .before .before .loop-test .taken) (c .before .wide16 .ensures) in search needs
 
 sub-put-block : tie.Need-sub-put-block Inv-loop μ-loop
 sub-put-block c = search needs
