@@ -1,9 +1,14 @@
 // An object in six lent buffers: its counts, what 42 asks of the buffers, and the rows of its tables read.
 ghost use mathlib.Core.Path.{_≡_};
+ghost use mathlib.Core.List.{map};
 ghost use Prim.Native.Nat.{_+_, _*_, _≤_};
 ghost use lib.ListN.{length};
+ghost use Rattle.rules.specs.Tokens.{upper};
 ghost use Rattle.rules.specs.Buffers.{six, short, least, lentWords, nameRow, labRow};
+ghost use Rattle.text.specs.Names.{ordered};
 ghost use Rattle.object.specs.Meaning.{lab};
+ghost use Rattle.object.specs.Slots.{upperName, Rising, Slotted};
+use text::Order;
 
 // Counts of blocks, words, labels and relocations. What stands in the six lent buffers up to these counts is the object.
 pub struct Counts {
@@ -17,6 +22,12 @@ pub struct Counts {
 pub enum Label {
     Defined(u32),
     External,
+}
+
+// Where a name stands among label rows, or the row where it belongs.
+pub enum Slot {
+    Taken(usize),
+    Free(usize),
 }
 
 // 42: a table or the name buffer is shorter than full capacities need.
@@ -87,4 +98,35 @@ pub fn label_at(labels: &[u32], k: usize) -> Label
         return Label::Defined(labels[i]);
     }
     Label::External
+}
+
+// The order of the name of row k and a name, both in upper case.
+pub fn compare_row(labels: &[u32], names: &[u8], k: usize, name: &[u8]) -> Order
+    ensures { λ r. ⌜ r ≡ ordered (upperName (now (labels .entry)) (now (names .entry)) k) (map upper (now (name .entry))) ⌝ }
+{
+    text::compare_names(label_name(labels, names, k), name)
+}
+
+// The row of a name among n rows that rise by name in upper case, by halving.
+pub fn slot_of(labels: &[u32], names: &[u8], n: usize, name: &[u8]) -> Slot
+    requires { ⌜ Rising (now labels) (now names) n ⌝ }
+    ensures { λ r. ⌜ Slotted (now (labels .entry)) (now (names .entry)) n (map upper (now (name .entry))) r ⌝ }
+{
+    let mut lo = 0;
+    let mut hi = n;
+    while lo < hi {
+        let mid = lo + (hi - lo) / 2;
+        match compare_row(labels, names, mid, name) {
+            Order::Less => {
+                lo = mid + 1;
+            }
+            Order::Greater => {
+                hi = mid;
+            }
+            Order::Same => {
+                return Slot::Taken(mid);
+            }
+        }
+    }
+    Slot::Free(lo)
 }

@@ -2,3 +2,4 @@ pub mod Spots
 pub mod Seeking
 pub mod Blocks
 pub mod Words
+pub mod Once

@@ -82,6 +82,9 @@ line-grows s = record {
 }
 
 module _ (s : List ℕ) (i : ℕ) where
+  pub line-ahead : tokenIs (isMark 10) s i ≡ true → (i < stopAt s i) × (stopAt s i ≤ length s)
+  line-ahead e = passed (isMark 10) (λ k h. not-end 10 k (λ (z : 10 ≡ 0). omega arith) h) s i e
+
   pub lines-on : tokenIs (isMark 10) s i ≡ true → pastLines s i ≡ pastLines s (stopAt s i)
   unfolding pastLines
   lines-on e = walk-on (tokenIs (isMark 10) s) (stopAt s) (length s) (line-grows s) i e

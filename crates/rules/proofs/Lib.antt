@@ -28,3 +28,4 @@ pub mod Disassembly
 pub mod Walking
 pub mod Ahead
 pub mod Following
+pub mod Walk

@@ -4,6 +4,8 @@ use mathlib.Core.Path.{_≡_, refl, sym, _∙_, ap}
 use mathlib.Core.Bool.{Bool, true, false}
 use mathlib.Core.List.{List, [], _∷_}
 use native.Mathlib.Omega.{arith}
+use native.Mathlib.Nat.{not-suc-le-zero, le-of-suc-le-suc}
+use lib.Seq.{getD-drop}
 use lib.ListN.{length, getD, length-drop}
 use Rattle.rules.specs.Tokens.{while}
 use Rattle.rules.proofs.While.{yes-cons, no-cons}
@@ -43,3 +45,22 @@ module _ (k : Class) (s : List ℕ) {i x : ℕ} {t : Bool} (h : i < length s) (e
 
 pub run-over : (k : Class) (s : List ℕ) {i x : ℕ} → length s ≤ i → runEnd k s i ≡ x → i ≡ x
 run-over k s h g = sym (run-past k s _ h) ∙ g
+
+-- the byte at a run's end is not of the class
+after-while : (p : ℕ → Bool) (l : List ℕ) → length (while p l) < length l → p (getD l (length (while p l)) 0) ≡ false
+unfolding while
+after-while p [] h = absurd (not-suc-le-zero h)
+after-while p (c ∷ l) h = go (p c) refl (after-while p l) h
+  where
+    go :
+        (b : Bool) → p c ≡ b → (length (while p l) < length l → p (getD l (length (while p l)) 0) ≡ false)
+        → length {A = ℕ} (elim b [ true ↦ c ∷ while p l | false ↦ [] ]) < suc (length l)
+        → p (getD (c ∷ l) (length {A = ℕ} (elim b [ true ↦ c ∷ while p l | false ↦ [] ])) 0) ≡ false
+    go true e f h = f (le-of-suc-le-suc h)
+    go false e f h = e
+
+pub run-stops : (k : Class) (s : List ℕ) (at : ℕ) → runEnd k s at < length s → inClass k (getD s (runEnd k s at) 0) ≡ false
+unfolding runEnd from
+run-stops k s at h =
+    ap (inClass k) (sym (getD-drop at s (length (while (inClass k) (from s at))) 0))
+    ∙ after-while (inClass k) (from s at) (omega (arith, length-drop at s))

@@ -1,0 +1,41 @@
+-- Newlines and labels as the code walks them. Assumes nothing.
+use Prim.Native.Nat.{ℕ}
+use mathlib.Core.Bool.{Bool, true, false, not}
+use mathlib.Core.List.{List}
+use mathlib.Core.Option.{Option, none, some}
+use mathlib.Core.Path.{_≡_}
+use lib.Dec.{eqb}
+use lib.ListN.{length}
+use Rattle.rules.specs.Base.{if_then_else_}
+use Rattle.rules.specs.Statements.{Name, isMark, tokenIs, stopAt, pastLines, pastLabel, pastLabels, nameAt, labelsAt}
+use Rattle.labels.specs.declared.Label.{Label}
+use Rattle.labels.specs.declared.Label.the-variants.{At, Nothing}
+use Rattle.labels.specs.declared.NextLabel.{NextLabel}
+use Rattle.labels.specs.declared.NextLabel.the-variants as next
+use Rattle.labels.specs.declared.Walk.{Walk}
+
+-- past a newline, where one stands
+unfoldable pub afterLine : List ℕ → ℕ → ℕ
+afterLine s i = if tokenIs (isMark 10) s i then stopAt s i else i
+
+-- a label token by its place
+unfoldable pub placed : Option Name → Label
+placed none = Nothing
+placed (some n) = At (n .place .start) (n .place .stop)
+
+-- the label at a place
+unfoldable pub labelHere : List ℕ → ℕ → Label
+labelHere s i = placed (nameAt s i)
+
+-- the first label from a place on, and where to look for the next
+unfoldable pub labelled : Option Name → ℕ → NextLabel
+labelled none j = next.Done
+labelled (some n) j = next.Label (n .place .start) (n .place .stop) j
+
+unfoldable pub labelFrom : List ℕ → ℕ → NextLabel
+labelFrom s i = labelled (nameAt s (pastLines s i)) (pastLabel s i)
+
+-- the walk over labels from i ends at its head, and says whether there were any
+pub record Walked (s : List ℕ) (i : ℕ) (w : Walk) : Type 0 where
+  pub head : w .head ≡ pastLines s (pastLabels s i)
+  pub labelled : w .labelled ≡ not (eqb (length (labelsAt s i)) 0)

@@ -1,0 +1,128 @@
+// What stands before a statement's instruction or directive: newlines, and labels each with an optional colon.
+use lexeme::next_lexeme;
+ghost use mathlib.Core.Path.{_≡_};
+ghost use Prim.Native.Nat.{_-_};
+ghost use Rattle.rules.specs.Statements.{pastColon, pastLines};
+ghost use Rattle.labels.specs.Walk.{afterLine, labelHere, labelFrom, Walked};
+
+// A label token of at most 64 bytes, or none.
+pub enum Label {
+    At { start: usize, end: usize },
+    Nothing,
+}
+
+// A label, and where to look for the next one.
+pub enum NextLabel {
+    Label {
+        start: usize,
+        end: usize,
+        next: usize,
+    },
+    Done,
+}
+
+// Where labels end: the place of the instruction or directive, and whether there are labels at all.
+pub struct Walk {
+    pub head: usize,
+    pub labelled: bool,
+}
+
+// Past a newline, where one stands.
+fn after_line(src: &[u8], at: usize) -> usize
+    ensures { λ r. ⌜ r ≡ afterLine (now (src .entry)) at ⌝ }
+{
+    let t = next_lexeme(src, at);
+    if t.sort == 9 {
+        return t.end;
+    }
+    at
+}
+
+// Past an optional colon.
+fn past_colon(src: &[u8], at: usize) -> usize
+    ensures { λ r. ⌜ r ≡ pastColon (now (src .entry)) at ⌝ }
+{
+    let t = next_lexeme(src, at);
+    if t.sort == 7 {
+        return t.end;
+    }
+    at
+}
+
+// Past any newlines.
+pub fn past_lines(src: &[u8], at: usize) -> usize
+    ensures { λ r. ⌜ r ≡ pastLines (now (src .entry)) at ⌝ }
+{
+    let mut i = at;
+    while i < src.len() {
+        let next = after_line(src, i);
+        if next == i {
+            return i;
+        }
+        i = next;
+    }
+    i
+}
+
+// How far the end is from the start.
+fn gap(start: usize, end: usize) -> usize
+    ensures { λ r. ⌜ r ≡ end - start ⌝ }
+{
+    if start <= end {
+        return end - start;
+    }
+    0
+}
+
+// The label token at a place.
+fn label_here(src: &[u8], at: usize) -> Label
+    ensures { λ r. ⌜ r ≡ labelHere (now (src .entry)) at ⌝ }
+{
+    let t = next_lexeme(src, at);
+    if t.sort == 3 {
+        let start = t.start;
+        let end = t.end;
+        if gap(start, end) <= 64 {
+            return Label::At { start, end };
+        }
+        return Label::Nothing;
+    }
+    Label::Nothing
+}
+
+// The first label from a place on, past newlines, and where to look for the next.
+pub fn next_label(src: &[u8], at: usize) -> NextLabel
+    ensures { λ r. ⌜ r ≡ labelFrom (now (src .entry)) at ⌝ }
+{
+    let place = past_lines(src, at);
+    match label_here(src, place) {
+        Label::At { start, end } => NextLabel::Label {
+            start,
+            end,
+            next: past_colon(src, end),
+        },
+        Label::Nothing => NextLabel::Done,
+    }
+}
+
+// The walk over the labels from a place on.
+pub fn walk_labels(src: &[u8], at: usize) -> Walk
+    ensures { λ r. ⌜ Walked (now (src .entry)) at r ⌝ }
+{
+    let mut i = at;
+    let mut labelled = false;
+    let mut head = past_lines(src, at);
+    while i < src.len() {
+        match label_here(src, head) {
+            Label::At { start: _, end } => {
+                i = past_colon(src, end);
+                head = past_lines(src, i);
+                labelled = true;
+            }
+            Label::Nothing => {
+                return Walk { head, labelled };
+            }
+        }
+    }
+    Walk { head, labelled }
+}

@@ -1,0 +1,14 @@
+use Rattle.lex.proofs.Told.{comment-line, comment-end}
+use borrow.Author.Needs.{needs}
+use Rattle.lex.proofs.lex_comment.Statement.{statement}
+use Rattle.lex.proofs.lex_comment.Tie as tie
+
+pub lex-comment-spec : {M : Type 1} → statement M
+lex-comment-spec =
+    tie.close
+    (tie.spec
+    (λ c. search needs)
+    (λ c κs. search needs)
+    (λ c. search needs)
+    (λ c. comment-line (c .before .before .before .args .src .now) (c .before .before .before .args .start) (c .before .before .before .pre) (c .before .run-end .ensures) (c .if1 .taken))
+    (λ c. comment-end (c .before .before .before .args .src .now) (c .before .before .before .args .start) (c .before .before .before .pre) (c .before .run-end .ensures) (c .if1 .left)))

@@ -1,0 +1,20 @@
+use mathlib.Core.Path.{_∙_}
+use Rattle.lex.proofs.Told.{r-alone, r-word, r-reg}
+use borrow.Author.Needs.{needs}
+use Rattle.lex.proofs.lex_r.Statement.{statement}
+use Rattle.lex.proofs.lex_r.Tie as tie
+
+pub lex-r-spec : {M : Type 1} → statement M
+lex-r-spec =
+    tie.close
+    (tie.spec
+    (λ c. search needs)
+    (λ c κs. search needs)
+    (λ c κs. search needs)
+    (λ c. c .lex-word .ensures ∙ r-alone (c .before .before .before .before .args .src .now) (c .before .before .before .before .args .start) (c .before .before .before .before .pre) (c .before .before .run-end .ensures) (c .before .if1 .taken))
+    (λ c κs. search needs)
+    (λ c κs. search needs)
+    (λ c κs. search needs)
+    (λ c. c .lex-word2 .ensures ∙ r-word (c .before .before .before .before .before .before .before .args .src .now) (c .before .before .before .before .before .before .before .args .start) (c .before .before .before .before .before .before .before .pre) (c .before .before .before .before .before .run-end .ensures) (c .before .before .before .before .if1 .left) (c .before .before .before .byte-at .ensures) (c .before .before .is-word .ensures) (c .before .if2 .taken))
+    (λ c κs. search needs)
+    (λ c. c .lex-reg .ensures ∙ r-reg (c .before .before .before .before .before .before .before .args .src .now) (c .before .before .before .before .before .before .before .args .start) (c .before .before .before .before .before .before .before .pre) (c .before .before .before .before .before .run-end .ensures) (c .before .before .before .before .if1 .left) (c .before .before .before .byte-at .ensures) (c .before .before .is-word .ensures) (c .before .if2 .left)))

@@ -1,0 +1,14 @@
+use Rattle.lex.proofs.Told.{return-line, return-alone}
+use borrow.Author.Needs.{needs}
+use Rattle.lex.proofs.lex_return.Statement.{statement}
+use Rattle.lex.proofs.lex_return.Tie as tie
+
+pub lex-return-spec : {M : Type 1} → statement M
+lex-return-spec =
+    tie.close
+    (tie.spec
+    (λ c. search needs)
+    (λ c κs. search needs)
+    (λ c. search needs)
+    (λ c. return-line (c .before .before .before .args .src .now) (c .before .before .before .args .start) (c .before .before .before .pre) (c .before .byte-at .ensures) (c .if1 .taken))
+    (λ c. return-alone (c .before .before .before .args .src .now) (c .before .before .before .args .start) (c .before .before .before .pre) (c .before .byte-at .ensures) (c .if1 .left)))

@@ -1,0 +1,17 @@
+use mathlib.Core.Path.{sym, _∙_}
+use Rattle.lex.proofs.Told.{quote-took, quote-big, quote-open}
+use borrow.Author.Needs.{needs}
+use Rattle.lex.proofs.lex_str_literal.Statement.{statement}
+use Rattle.lex.proofs.lex_str_literal.Tie as tie
+
+pub lex-str-literal-spec : {M : Type 1} → statement M
+lex-str-literal-spec =
+    tie.close
+    (tie.spec
+    (λ c. search needs)
+    (λ c κs. search needs)
+    (λ c. search needs)
+    (λ c. search needs)
+    (λ c. quote-took (c .before .before .before .before .before .before .args .src .now) (c .before .before .before .before .before .before .args .start) (c .before .before .before .before .before .before .pre) (sym (c .before .before .scanned .given .1) ∙ c .before .before .before .before .scan-string .ensures) (c .if1 .taken))
+    (λ c. quote-big (c .before .before .before .before .before .before .args .src .now) (c .before .before .before .before .before .before .args .start) (c .before .before .before .before .before .before .pre) (sym (c .before .before .scanned .given .1) ∙ c .before .before .before .before .scan-string .ensures) (c .if1 .left))
+    (λ c. quote-open (c .before .before .before .before .before .args .src .now) (c .before .before .before .before .before .args .start) (c .before .before .before .before .before .pre) (sym (c .before .scanned2 .given .1) ∙ c .before .before .before .scan-string .ensures)))

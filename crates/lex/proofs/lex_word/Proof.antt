@@ -1,0 +1,16 @@
+use Rattle.text.proofs.RunLaws.{end-ge, end-le}
+use Rattle.lex.proofs.Told.{word-told}
+use borrow.Author.Needs.{needs}
+use Rattle.lex.proofs.lex_word.Statement.{statement}
+use Rattle.lex.proofs.lex_word.Tie as tie
+
+pub lex-word-spec : {M : Type 1} → statement M
+lex-word-spec =
+    tie.close
+    (tie.spec
+    (λ c κs. search needs)
+    (λ c. rw (c .run-end .ensures) (end-ge _ _ _))
+    (λ c. rw (c .run-end .ensures) (end-ge _ _ _))
+    (λ c. rw (c .run-end .ensures) (end-le _ _ _ (c .before .before .pre)))
+    (λ c κs. search needs)
+    (λ c. word-told (c .before .before .before .before .args .src .now) (c .before .before .before .before .args .start) (c .before .before .run-end .ensures) (c .ident-of .ensures)))

@@ -1,0 +1,121 @@
+-- `lexeme::flat_token` meets its contract. Assumes nothing.
+use borrow.Author.Needs.{needs}
+use Rattle.lexeme.proofs.flat_token.Statement.{statement}
+use Rattle.lexeme.proofs.flat_token.Tie as tie
+
+enum-known-token : tie.Need-enum-known-token
+enum-known-token c = search needs
+
+plain-requires : tie.Need-plain-requires
+plain-requires c κs = search needs
+
+enum-known-token-2 : tie.Need-enum-known-token-2
+enum-known-token-2 c = search needs
+
+plain-requires-2 : tie.Need-plain-requires-2
+plain-requires-2 c κs = search needs
+
+enum-known-token-3 : tie.Need-enum-known-token-3
+enum-known-token-3 c = search needs
+
+cast-plain : tie.Need-cast-plain
+cast-plain c = search needs
+
+plain-requires-3 : tie.Need-plain-requires-3
+plain-requires-3 c κs = search needs
+
+enum-known-token-4 : tie.Need-enum-known-token-4
+enum-known-token-4 c = search needs
+
+flat-ident-requires : tie.Need-flat-ident-requires
+flat-ident-requires c κs = search needs
+
+enum-told : tie.Need-enum-told
+enum-told c = search needs
+
+plain-requires-4 : tie.Need-plain-requires-4
+plain-requires-4 c κs = search needs
+
+enum-told-2 : tie.Need-enum-told-2
+enum-told-2 c = search needs
+
+plain-requires-5 : tie.Need-plain-requires-5
+plain-requires-5 c κs = search needs
+
+enum-told-3 : tie.Need-enum-told-3
+enum-told-3 c = search needs
+
+plain-requires-6 : tie.Need-plain-requires-6
+plain-requires-6 c κs = search needs
+
+enum-told-4 : tie.Need-enum-told-4
+enum-told-4 c = search needs
+
+plain-requires-7 : tie.Need-plain-requires-7
+plain-requires-7 c κs = search needs
+
+enum-told-5 : tie.Need-enum-told-5
+enum-told-5 c = search needs
+
+plain-requires-8 : tie.Need-plain-requires-8
+plain-requires-8 c κs = search needs
+
+returns : tie.Need-returns
+returns c = rw (c .before .before .token .given .1) (c .plain .ensures)
+
+returns-2 : tie.Need-returns-2
+returns-2 c = rw (c .before .before .token2 .given .1) (c .plain2 .ensures)
+
+returns-3 : tie.Need-returns-3
+returns-3 c = rw (c .before .before .token3 .given .1) (c .plain3 .ensures)
+
+returns-4 : tie.Need-returns-4
+returns-4 c = rw (c .before .before .token4 .given .1) (c .flat-ident .ensures)
+
+returns-5 : tie.Need-returns-5
+returns-5 c = rw (c .before .enum-told .given .1) (c .plain4 .ensures)
+
+returns-6 : tie.Need-returns-6
+returns-6 c = rw (c .before .enum-told2 .given .1) (c .plain5 .ensures)
+
+returns-7 : tie.Need-returns-7
+returns-7 c = rw (c .before .enum-told3 .given .1) (c .plain6 .ensures)
+
+returns-8 : tie.Need-returns-8
+returns-8 c = rw (c .before .enum-told4 .given .1) (c .plain7 .ensures)
+
+returns-9 : tie.Need-returns-9
+returns-9 c = rw (c .before .enum-told5 .given .1) (c .plain8 .ensures)
+
+pub flat-token-spec : {M : Type 1} → statement M
+flat-token-spec =
+    tie.close
+    (tie.spec
+    enum-known-token
+    plain-requires
+    enum-known-token-2
+    plain-requires-2
+    enum-known-token-3
+    cast-plain
+    plain-requires-3
+    enum-known-token-4
+    flat-ident-requires
+    enum-told
+    plain-requires-4
+    enum-told-2
+    plain-requires-5
+    enum-told-3
+    plain-requires-6
+    enum-told-4
+    plain-requires-7
+    enum-told-5
+    plain-requires-8
+    returns
+    returns-2
+    returns-3
+    returns-4
+    returns-5
+    returns-6
+    returns-7
+    returns-8
+    returns-9)

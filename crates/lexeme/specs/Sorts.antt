@@ -1,0 +1,76 @@
+-- A token as four numbers, and what they mean in the rules. Assumes nothing.
+use Prim.Native.Nat.{ℕ, zero, suc, _+_, _-_, _≤_, _<_}
+use mathlib.Core.Bool.{Bool, true, false}
+use mathlib.Core.List.{List, [], _∷_, map}
+use mathlib.Core.Option.{Option, none, some}
+use mathlib.Core.Path.{_≡_}
+use lib.ListN.{length, getD}
+use Rattle.rules.specs.Base.{Outcome, ok, refuse, span}
+use Rattle.rules.specs.Tokens.{Num, plus, minus, Kind, number, register, mark, word, directive, text, upper, tokenIn, nextToken}
+use Rattle.rules.specs.Words.{Row, instr, find, instructions}
+use Rattle.reserved.specs.declared.Ident.{Ident}
+use Rattle.reserved.specs.declared.Ident.the-variants.{Reserved, Label}
+use Rattle.token.specs.Meant.{part, kindAt}
+use Rattle.token.specs.declared.Token.{Token}
+use Rattle.token.specs.declared.Token.the-variants.{Unsigned, Signed, Reg, Directive, String, Colon, Comma, NewLine}
+use Rattle.token.specs.declared.Token.the-variants as tok
+use Rattle.token.specs.declared.Next.{Next}
+use Rattle.token.specs.declared.Next.the-variants.{Took, End, Refused}
+use Rattle.lexeme.specs.declared.Lexeme.{Lexeme}
+
+abbrev pub lexeme : (sort value start end : ℕ) → Lexeme
+lexeme k v a e = record { sort = k; value = v; start = a; end = e }
+
+abbrev pub flatIdent : Ident → (start end : ℕ) → Lexeme
+flatIdent (Reserved k) a e = lexeme 5 k a e
+flatIdent Label a e = lexeme 3 0 a e
+
+abbrev pub flatToken : Token → (start end : ℕ) → Lexeme
+flatToken (Unsigned n) a e = lexeme 0 n a e
+flatToken (Signed n) a e = lexeme 1 n a e
+flatToken (Reg n) a e = lexeme 2 n a e
+flatToken (tok.Ident i) a e = flatIdent i a e
+flatToken String a e = lexeme 4 0 a e
+flatToken Directive a e = lexeme 6 0 a e
+flatToken Colon a e = lexeme 7 0 a e
+flatToken Comma a e = lexeme 8 0 a e
+flatToken NewLine a e = lexeme 9 0 a e
+
+abbrev pub flatNext : Next → Lexeme
+flatNext (Took t a e) = flatToken t a e
+flatNext (End i) = lexeme 10 0 i i
+flatNext (Refused n a e) = lexeme 11 n a e
+
+-- WHAT THE NUMBERS MEAN
+
+-- the word or name at a lexeme's place, in upper case
+unfoldable pub nameOf : List ℕ → Lexeme → List ℕ
+nameOf s t = map upper (part s (t .start) (t .end))
+
+-- by the sort: 3 and 5 are words, 10 is the source's end
+abbrev pub kindBy : List ℕ → ℕ → Lexeme → Kind
+kindBy s zero t = number (plus (t .value))
+kindBy s (suc zero) t = number (minus (t .value))
+kindBy s (suc (suc zero)) t = register (t .value)
+kindBy s (suc (suc (suc zero))) t = word (nameOf s t)
+kindBy s (suc (suc (suc (suc zero)))) t = kindAt s (t .start) (t .end) String
+kindBy s (suc (suc (suc (suc (suc zero))))) t = word (nameOf s t)
+kindBy s (suc (suc (suc (suc (suc (suc zero)))))) t = kindAt s (t .start) (t .end) Directive
+kindBy s (suc (suc (suc (suc (suc (suc (suc zero))))))) t = mark 58
+kindBy s (suc (suc (suc (suc (suc (suc (suc (suc zero)))))))) t = mark 44
+kindBy s (suc (suc (suc (suc (suc (suc (suc (suc (suc zero))))))))) t = mark 10
+kindBy s (suc (suc (suc (suc (suc (suc (suc (suc (suc (suc k)))))))))) t = mark 0
+
+-- no row
+abbrev pub noRow : Row
+noRow = record { key = []; op = instr; base = 0; fields = [] }
+
+-- the token that the lexeme stands for is the next one from i on
+pub record Stands (s : List ℕ) (i : ℕ) (t : Lexeme) : Type 0 where
+  pub token : t .sort < 11 → nextToken s i ≡ ok (tokenIn (kindBy s (t .sort) t) (span (t .start) (t .end)))
+  pub bad : 11 ≤ t .sort → nextToken s i ≡ refuse (t .value) (span (t .start) (t .end))
+  pub label : t .sort ≡ 3 → find (nameOf s t) instructions ≡ none
+  pub size : t .sort ≡ 3 → length (nameOf s t) ≡ t .end - t .start
+  pub reserved : t .sort ≡ 5 → find (nameOf s t) instructions ≡ some (getD instructions (t .value) noRow)
+  pub code : t .sort ≡ 5 → t .value < 32
+  pub known : t .sort ≤ 11

@@ -1,0 +1,3 @@
+-- Laws of tokens as the code tells them. Assumes nothing.
+pub mod NumberTold
+pub mod MeantCoded

@@ -1,0 +1,16 @@
+use Rattle.rules.specs.Tokens.{hexNeg}
+use Rattle.token.specs.Coded.{signedKind, formOf}
+use borrow.Author.Needs.{needs}
+use Rattle.token.proofs.lex_signed_hex.Statement.{statement}
+use Rattle.token.proofs.lex_signed_hex.Tie as tie
+
+returns : tie.Need-returns
+unfolding hexNeg signedKind formOf
+returns c = c .lex-number .ensures
+
+pub lex-signed-hex-spec : {M : Type 1} → statement M
+lex-signed-hex-spec =
+    tie.close
+    (tie.spec
+    (λ c κs. search needs)
+    returns)

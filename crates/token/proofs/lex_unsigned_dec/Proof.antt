@@ -1,0 +1,16 @@
+use Rattle.rules.specs.Tokens.{dec}
+use Rattle.token.specs.Coded.{signedKind, formOf}
+use borrow.Author.Needs.{needs}
+use Rattle.token.proofs.lex_unsigned_dec.Statement.{statement}
+use Rattle.token.proofs.lex_unsigned_dec.Tie as tie
+
+returns : tie.Need-returns
+unfolding dec signedKind formOf
+returns c = c .lex-number .ensures
+
+pub lex-unsigned-dec-spec : {M : Type 1} → statement M
+lex-unsigned-dec-spec =
+    tie.close
+    (tie.spec
+    (λ c κs. search needs)
+    returns)

@@ -1,0 +1,3 @@
+-- What the contracts of `token` and `lex` cite beside the rules. Assumes nothing.
+pub mod Coded
+pub mod Meant
