@@ -3,11 +3,12 @@ ghost use mathlib.Core.Path.{_≡_};
 ghost use mathlib.Core.List.{flatMap};
 ghost use Prim.Native.Nat.{_+_, _*_, _<_, _≤_};
 ghost use lib.ListN.{length, getD};
-ghost use Rattle.rules.specs.Buffers.{BlocksOk, WordsOk, LabelsOk, viewBlocks, viewLabels, viewRelocs, labelRow, relocRow};
+ghost use Rattle.rules.specs.Buffers.{BlocksOk, WordsOk, LabelsOk, viewBlocks, viewLabels, viewRelocs, nameRow, labelRow, relocRow};
 ghost use Rattle.rules.specs.Listing.{labelLine, relocLine, blockLines};
 ghost use Rattle.listing_lines.specs.Appended.{Appended};
 ghost use Rattle.listing.specs.Fronts.{labelFront, relocFront, blockText};
-ghost use Rattle.listing.specs.Low.{RelocsLow};
+ghost use Rattle.listing.specs.Low.{RelocsLow, RelocsNamed};
+ghost use Rattle.listing.specs.Sizes.{Sized, SizedAll};
 
 // A block's lines.
 pub fn put_block(out: &mut [u8], at: usize, start: u16, words: &[u16], marks: &[u8]) -> usize
@@ -159,4 +160,58 @@ fn put_blocks(
         k += 1;
     }
     end
+}
+
+// How long the line of label row k is.
+fn label_size(labels: &[u32], names: &[u8], k: usize) -> usize
+    requires { ⌜ k * 4 + 4 ≤ length (now labels) ⌝ }
+    requires { ⌜ length (nameRow (now labels) (now names) k) ≤ 64 ⌝ }
+    ensures { λ r. ⌜ Sized r (labelLine (labelRow (now (labels .entry)) (now (names .entry)) k)) ⌝ }
+{
+    let i = k * 4;
+    let name = object::label_name(labels, names, k);
+    if labels[i + 1] == 0 {
+        return name.len() + 12;
+    }
+    name.len() + 8
+}
+
+// How long the lines of the first n labels are.
+fn labels_size(labels: &[u32], names: &[u8], n: usize) -> usize
+    requires { ⌜ LabelsOk n (now labels) (now names) ⌝ }
+    ensures { λ r. ⌜ SizedAll 1024 r (flatMap labelLine (viewLabels n (now (labels .entry)) (now (names .entry)))) ⌝ }
+{
+    let mut k = 0;
+    let mut size = 0;
+    while k < n {
+        size += label_size(labels, names, k);
+        k += 1;
+    }
+    size
+}
+
+// How long the line of relocation row k is.
+fn relocation_size(relocations: &[u32], labels: &[u32], names: &[u8], k: usize) -> usize
+    requires { ⌜ k * 2 + 2 ≤ length (now relocations) ⌝ }
+    requires { ⌜ length (nameRow (now labels) (now names) (getD (now relocations) (k * 2 + 1) 0)) ≤ 64 ⌝ }
+    ensures { λ r. ⌜ Sized r (relocLine (relocRow (now (relocations .entry)) (now (labels .entry)) (now (names .entry)) k)) ⌝ }
+{
+    let i = k * 2;
+    let row = wide(relocations[i + 1]);
+    let name = object::label_name(labels, names, row);
+    name.len() + 10
+}
+
+// How long the lines of the first n relocations are.
+fn relocations_size(relocations: &[u32], labels: &[u32], names: &[u8], n: usize) -> usize
+    requires { ⌜ RelocsNamed n (now relocations) (now labels) (now names) ⌝ }
+    ensures { λ r. ⌜ SizedAll 1024 r (flatMap relocLine (viewRelocs n (now (relocations .entry)) (now (labels .entry)) (now (names .entry)))) ⌝ }
+{
+    let mut k = 0;
+    let mut size = 0;
+    while k < n {
+        size += relocation_size(relocations, labels, names, k);
+        k += 1;
+    }
+    size
 }
