@@ -88,7 +88,7 @@ text-block a m n w ws ms h l =
     rw (s, e, t) (ap (λ (x : List ℕ). bytes "BLOCK " ++ hex4 a ++ bytes " " ++ hex4 n ++ lf ++ x) (sym (words-tab a n (cellRow (take n (drop m ws)) (take n (drop m ms))))))
 
 -- a row's words lie in all
-sum-grows : (h : ℕ → ℕ × ℕ) (k n : ℕ) → k < n → sumOf h k + h k .1 ≤ sumOf h n
+pub sum-grows : (h : ℕ → ℕ × ℕ) (k n : ℕ) → k < n → sumOf h k + h k .1 ≤ sumOf h n
 sum-grows h k zero l = absurd (not-suc-le-zero l)
 sum-grows h k (suc n) l = go (decLt k n) (sum-grows h k n)
   where

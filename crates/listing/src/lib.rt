@@ -75,7 +75,7 @@ fn put_label(out: &mut [u8], at: usize, labels: &[u32], names: &[u8], k: usize) 
 }
 
 // The lines of the first n labels.
-fn put_labels(out: &mut [u8], at: usize, labels: &[u32], names: &[u8], n: usize) -> usize
+pub fn put_labels(out: &mut [u8], at: usize, labels: &[u32], names: &[u8], n: usize) -> usize
     requires { ⌜ LabelsOk n (now labels) (now names) ⌝ }
     requires { ⌜ at + length (flatMap labelLine (viewLabels n (now labels) (now names))) ≤ length (now out) ⌝ }
     ensures { λ r. ⌜ Appended (now (out .entry)) (now (out .exit)) at r (flatMap labelLine (viewLabels n (now (labels .entry)) (now (names .entry)))) ⌝ }
@@ -111,7 +111,7 @@ fn put_relocation(
 }
 
 // The lines of the first n relocations.
-fn put_relocations(
+pub fn put_relocations(
     out: &mut [u8],
     at: usize,
     relocations: &[u32],
@@ -133,7 +133,7 @@ fn put_relocations(
 }
 
 // The lines of the first n blocks.
-fn put_blocks(
+pub fn put_blocks(
     out: &mut [u8],
     at: usize,
     blocks: &[u16],
@@ -177,7 +177,7 @@ fn label_size(labels: &[u32], names: &[u8], k: usize) -> usize
 }
 
 // How long the lines of the first n labels are.
-fn labels_size(labels: &[u32], names: &[u8], n: usize) -> usize
+pub fn labels_size(labels: &[u32], names: &[u8], n: usize) -> usize
     requires { ⌜ LabelsOk n (now labels) (now names) ⌝ }
     ensures { λ r. ⌜ SizedAll 1024 r (flatMap labelLine (viewLabels n (now (labels .entry)) (now (names .entry)))) ⌝ }
 {
@@ -203,7 +203,7 @@ fn relocation_size(relocations: &[u32], labels: &[u32], names: &[u8], k: usize) 
 }
 
 // How long the lines of the first n relocations are.
-fn relocations_size(relocations: &[u32], labels: &[u32], names: &[u8], n: usize) -> usize
+pub fn relocations_size(relocations: &[u32], labels: &[u32], names: &[u8], n: usize) -> usize
     requires { ⌜ RelocsNamed n (now relocations) (now labels) (now names) ⌝ }
     ensures { λ r. ⌜ SizedAll 1024 r (flatMap relocLine (viewRelocs n (now (relocations .entry)) (now (labels .entry)) (now (names .entry)))) ⌝ }
 {

@@ -65,7 +65,7 @@ flat-append f (a ∷ x) y = ap (λ (l : List ℕ). f a ++ l) (flat-append f x y)
 
 module _ {A : Type 0} (f : A → List ℕ) (g : ℕ → A) where
   -- one row more
-  rows-suc : (k : ℕ) → flatMap f (tab (suc k) g) ≡ flatMap f (tab k g) ++ f (g k)
+  pub rows-suc : (k : ℕ) → flatMap f (tab (suc k) g) ≡ flatMap f (tab k g) ++ f (g k)
   unfolding flatMap
   rows-suc k = ap (flatMap f) (tab-suc k g) ∙ (flat-append f (tab k g) (g k ∷ []) ∙ ap (λ (l : List ℕ). flatMap f (tab k g) ++ l) (append-nil (f (g k))))
 
