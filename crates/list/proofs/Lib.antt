@@ -1,0 +1,3 @@
+-- Laws that the proofs of `list` cite. Assumes nothing.
+pub mod Length
+pub mod Listing
