@@ -1,3 +1,4 @@
+use Rattle.operands.proofs.Places.{at-register, at-number, at-label, at-text, at-other}
 use borrow.Author.Needs.{needs}
 use Rattle.operands.proofs.operand_at.Statement.{statement}
 use Rattle.operands.proofs.operand_at.Tie as tie
@@ -20,7 +21,7 @@ register-operand-requires c κs = search needs
 
 -- src/lib.rt:291:9
 returns : tie.Need-returns
-returns c = ?
+returns c = search (needs, at-register)
 
 -- src/lib.rt:294:9
 number-operand-requires : tie.Need-number-operand-requires
@@ -28,7 +29,7 @@ number-operand-requires c κs = search needs
 
 -- src/lib.rt:294:9
 returns-2 : tie.Need-returns-2
-returns-2 c = ?
+returns-2 c = search (needs, at-number)
 
 -- src/lib.rt:297:9
 label-operand-requires : tie.Need-label-operand-requires
@@ -36,7 +37,7 @@ label-operand-requires c κs = search needs
 
 -- src/lib.rt:297:9
 returns-3 : tie.Need-returns-3
-returns-3 c = ?
+returns-3 c = search (needs, at-label)
 
 -- src/lib.rt:300:9
 text-operand-requires : tie.Need-text-operand-requires
@@ -44,7 +45,7 @@ text-operand-requires c κs = search needs
 
 -- src/lib.rt:300:9
 returns-4 : tie.Need-returns-4
-returns-4 c = ?
+returns-4 c = search (needs, at-text)
 
 -- src/lib.rt:302:5
 misplaced-requires : tie.Need-misplaced-requires
@@ -52,7 +53,7 @@ misplaced-requires c κs = search needs
 
 -- src/lib.rt:285:1
 returns-5 : tie.Need-returns-5
-returns-5 c = ?
+returns-5 c = search (needs, at-other)
 
 pub operand-at-spec : {M : Type 1} → statement M
 operand-at-spec =
