@@ -1,0 +1,2 @@
+-- Laws of the table of rows. Assumes nothing.
+pub mod Table
