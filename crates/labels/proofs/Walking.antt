@@ -9,8 +9,8 @@ use native.Mathlib.Omega.{arith}
 use borrow.Author.Tests.{eq-eqb, ne-eqb, le-leb, lt-leb}
 use lib.Dec.{eqb, leb}
 use lib.ListN.{length}
-use Rattle.rules.specs.Base.{if_then_else_, ok, refused, Span, span, has}
-use Rattle.rules.specs.Tokens.{Kind, word, tokenIn, nextToken}
+use Rattle.rules.specs.Base.{if_then_else_, Outcome, ok, refused, Span, span, has}
+use Rattle.rules.specs.Tokens.{Kind, word, Token, tokenIn, nextToken}
 use Rattle.rules.specs.Words.{find, instructions}
 use Rattle.rules.specs.Statements.{Name, isMark, asWord, asLabel, asName, nameAt, tokenIs, stopAt, pastLines, pastColon, pastLabel}
 use Rattle.rules.proofs.Ahead.{lines-on, lines-done, line-ahead, colon-on, colon-done, name-token, name-refused}
@@ -19,6 +19,7 @@ use Rattle.lexeme.specs.Sorts.{nameOf, kindBy, Stands}
 use Rattle.lexeme.proofs.Marks.{token-mark, stop-end, line-sort, colon-sort, word-sort}
 use Rattle.labels.specs.declared.Label.{Label}
 use Rattle.labels.specs.declared.Label.the-variants.{At, Nothing}
+use Rattle.labels.specs.declared.NextLabel.the-variants as next
 use Rattle.labels.specs.Walk.{afterLine, placed, labelHere, labelled, labelFrom}
 
 module _ (s : List ℕ) (i : ℕ) (t : Lexeme) (h : Stands s i t) where
@@ -60,6 +61,9 @@ module _ (s : List ℕ) (i next : ℕ) (e : next ≡ afterLine s i) where
 
   pub lines-inside : (next ≡ i → ⊥) → next ≤ length s
   lines-inside n = by-line (λ q p. (let u = line-ahead s i q in omega (arith, u .1))) (λ q p. absurd (n p))
+
+  pub lines-less : (next ≡ i → ⊥) → length s - next < length s - i
+  lines-less n = omega (arith, lines-ahead n, lines-inside n)
 
   pub lines-stop : (at : ℕ) → Lines s at i → next ≡ i → i ≡ pastLines s at
   lines-stop at l n = sym (l .same ∙ by-line (λ q p. (let u = line-ahead s i q in absurd (omega (arith, u .0)))) (λ q p. lines-done s i q))
@@ -117,3 +121,47 @@ module _ (s : List ℕ) (i : ℕ) (t : Lexeme) (h : Stands s i t) where
       go (yes l) (yes e) = reserved-none e
       go (yes l) (no e) = other-none l n e
       go (no l) d = name-refused s i _ (h .bad (omega arith))
+
+-- THE FIRST LABEL FROM A PLACE
+
+-- a label's place is its token's
+as-placed : (k : Kind) (p : Span) (n : Name) → asName k p ≡ some n → n .place ≡ p
+unfolding asName if_then_else_
+as-placed k p n e = go (asLabel k) e
+  where
+    sized : (t : List ℕ) (b : Bool) → (if b then some (record { text = t; place = p }) else none) ≡ some n → n .place ≡ p
+    sized t true q = let z : record { text = t; place = p } ≡ n = cc in ap (λ (x : Name). x .place) (sym z)
+    sized t false q = let z : _≡_ {A = ℕ} 0 1 = cc in absurd (omega arith)
+
+    go : (o : Option (List ℕ)) → _≡_ {A = Option Name} (elim o [ none ↦ none | some t ↦ if leb (length t) 64 then some (record { text = t; place = p }) else none ]) (some n) → n .place ≡ p
+    go none q = let z : _≡_ {A = ℕ} 0 1 = cc in absurd (omega arith)
+    go (some t) q = sized t (leb (length t) 64) q
+
+pub name-stop : (s : List ℕ) (i : ℕ) (n : Name) → nameAt s i ≡ some n → stopAt s i ≡ n .place .stop
+unfolding nameAt stopAt
+name-stop s i n e = go (nextToken s i) e
+  where
+    go : (o : Outcome Token) → _≡_ {A = Option Name} (elim o [ ok t ↦ asName (t .kind) (t .place) | refused r ↦ none ]) (some n) → _≡_ {A = ℕ} (elim o [ ok t ↦ t .place .stop | refused r ↦ i ]) (n .place .stop)
+    go (ok t) q = ap (λ (p : Span). p .stop) (sym (as-placed (t .kind) (t .place) n q))
+    go (refused r) q = let z : _≡_ {A = ℕ} 0 1 = cc in absurd (omega arith)
+
+module _ (s : List ℕ) (at place : ℕ) (p : place ≡ pastLines s at) (r : Label) (h : r ≡ labelHere s place) where
+  pub first-label : (a e n : ℕ) → r ≡ At a e → n ≡ pastColon s e → next.Label a e n ≡ labelFrom s at
+  unfolding labelHere placed labelFrom labelled pastLabel
+  first-label a e n q c = rw (← p) (go (nameAt s place) refl (sym h ∙ q))
+    where
+      go : (o : Option Name) → nameAt s place ≡ o → placed o ≡ At a e → next.Label a e n ≡ labelled o (pastColon s (stopAt s place))
+      go none f z = let u : _≡_ {A = ℕ} 0 1 = cc in absurd (omega arith)
+      go (some m) f z =
+          let x : m .place .start ≡ a = cc in
+          let y : m .place .stop ≡ e = cc in
+          let w : stopAt s place ≡ e = name-stop s place m f ∙ y in
+          rw (x, y, w, c)
+
+  pub no-label-from : r ≡ Nothing → next.Done ≡ labelFrom s at
+  unfolding labelHere placed labelFrom labelled
+  no-label-from q = rw (← p) (go (nameAt s place) (sym h ∙ q))
+    where
+      go : (o : Option Name) → placed o ≡ Nothing → next.Done ≡ labelled o (pastLabel s at)
+      go none z = refl
+      go (some m) z = let u : _≡_ {A = ℕ} 0 1 = cc in absurd (omega arith)

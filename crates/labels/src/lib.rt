@@ -104,3 +104,25 @@ pub fn next_label(src: &[u8], at: usize) -> NextLabel
         Label::Nothing => NextLabel::Done,
     }
 }
+
+// The walk over the labels from a place on.
+pub fn walk_labels(src: &[u8], at: usize) -> Walk
+    ensures { λ r. ⌜ Walked (now (src .entry)) at r ⌝ }
+{
+    let mut i = at;
+    let mut labelled = false;
+    let mut head = past_lines(src, at);
+    while i < src.len() {
+        match label_here(src, head) {
+            Label::At { start: _, end } => {
+                i = past_colon(src, end);
+                head = past_lines(src, i);
+                labelled = true;
+            }
+            Label::Nothing => {
+                return Walk { head, labelled };
+            }
+        }
+    }
+    Walk { head, labelled }
+}

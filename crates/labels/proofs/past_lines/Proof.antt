@@ -1,38 +1,34 @@
+-- `labels::past_lines` meets its contract. Assumes nothing.
+use borrow.Author.Needs.{needs}
+use Prim.Native.Nat.{_-_}
+use lib.ListN.{length}
+use Rattle.labels.proofs.Walking.{Lines, lines-start, lines-next, lines-less, lines-stop, lines-end}
 use Rattle.labels.proofs.past_lines.Statement.{statement}
 use Rattle.labels.proofs.past_lines.Tie as tie
-use Rattle.labels.proofs.past_lines.Reads as reads
-use Rattle.labels.proofs.past_lines.Lts as lts
-use Rattle.labels.proofs.after_line.Reads as after-line-reads
 
 abbrev Inv-loop : tie.InvT-loop
-Inv-loop src at i₀ i = ?
+Inv-loop src at i₀ i = Lines src at i
 
 abbrev μ-loop : tie.MeasureT-loop
-μ-loop src at i₀ i = ?
+μ-loop src at i₀ i = length src - i
 
--- src/lib.rt:56:5
 loop-holds : tie.Need-loop-holds Inv-loop μ-loop
-loop-holds c = ?
+loop-holds c = search (needs, lines-start)
 
--- src/lib.rt:57:13
 after-line-requires : tie.Need-after-line-requires Inv-loop μ-loop
-after-line-requires c κs = ?
+after-line-requires c κs = search needs
 
--- src/lib.rt:59:13
 returns : tie.Need-returns Inv-loop μ-loop
-returns c = ?
+returns c = search (needs, lines-stop)
 
--- src/lib.rt:56:5
 loop-less : tie.Need-loop-less Inv-loop μ-loop
-loop-less c = ?
+loop-less c = search (needs, lines-less)
 
--- src/lib.rt:56:5
 loop-again : tie.Need-loop-again Inv-loop μ-loop
-loop-again c = ?
+loop-again c = search (needs, lines-next)
 
--- src/lib.rt:52:1
 returns-2 : tie.Need-returns-2 Inv-loop μ-loop
-returns-2 c = ?
+returns-2 c = search (needs, lines-end)
 
 pub past-lines-spec : {M : Type 1} → statement M
 past-lines-spec =
