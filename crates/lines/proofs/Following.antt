@@ -111,7 +111,7 @@ module _ (s : List ℕ) (f : Field) (other : ℕ) where
   next g = commaAt s (g .stop) >>= λ j. operandAt s f other g j
 
   then-coded : (o : Outcome rules.Given) → thenStep s f other (codedStep o) ≡ codedStep (o >>= next)
-  unfolding thenStep codedStep moreStep moreGiven told operandStep
+  unfolding thenStep codedStep moreStep moreGiven told operandStep codedGiven
   then-coded (refused r) = refl
   then-coded (ok g) = by-comma (commaAt s (g .stop))
     where
