@@ -1,0 +1,2 @@
+-- Laws that the proofs of `parse` cite. Assumes nothing.
+pub mod Reading
