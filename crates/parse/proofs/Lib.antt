@@ -1,2 +1,3 @@
 -- Laws that the proofs of `parse` cite. Assumes nothing.
 pub mod Reading
+pub mod Heads

@@ -5,9 +5,10 @@ use mathlib.Core.List.{List, []}
 use mathlib.Core.Option.{Option, none, some}
 use lib.Dec.{eqb}
 use Rattle.rules.specs.Base.{if_then_else_, Outcome, ok, refused}
-use Rattle.rules.specs.Words.{instr, orig, fill, blkw, stringz, end, external}
+use Rattle.rules.specs.Words.{instr, orig, fill, blkw, stringz, end, external, directives, find}
 use Rattle.rules.specs.Words as words
-use Rattle.rules.specs.Statements.{Read, ends, tokenIs, lineEnd}
+use Rattle.rules.specs.Tokens.{Token}
+use Rattle.rules.specs.Statements.{Name, Read, need, ends, tokenIs, lineEnd, rowRead}
 use Rattle.lexeme.specs.declared.Lexeme.{Lexeme}
 use Rattle.operands.specs.declared.Given.{Given}
 use Rattle.operands.specs.declared.Step.{Step}
@@ -98,3 +99,7 @@ bareRow r = record { op = r .op; base = r .base; count = 0; first = r .first; se
 -- NOP
 unfoldable pub nopStep : List ℕ → Row → (a e : ℕ) → NextStatement
 nopStep s r a e = rowStep s (r .op) (if tokenIs ends s e then [] else fieldsBy (r .count) (r .first) (r .second) (r .third)) 13 (r .base) a e
+
+-- the statement of a directive of this name
+unfoldable pub dotRead : List ℕ → List Name → (name : List ℕ) → Token → Outcome (Option Read)
+dotRead s ls w t = need (find w directives) 13 (t .place) (λ r. rowRead s ls r t (r .fields) 14)

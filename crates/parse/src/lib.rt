@@ -11,12 +11,12 @@ ghost use Prim.Native.Nat.{_+_, _<_};
 ghost use lib.ListN.{getD};
 ghost use Rattle.rules.specs.Base.{span};
 ghost use Rattle.rules.specs.Tokens.{Kind, tokenIn, upper};
-ghost use Rattle.rules.specs.Words.{instructions, directives, find};
-ghost use Rattle.rules.specs.Statements.{Name, need, rowRead, instrRead, nextStatement};
+ghost use Rattle.rules.specs.Words.{instructions};
+ghost use Rattle.rules.specs.Statements.{Name, instrRead, nextStatement};
 ghost use Rattle.token.specs.Meant.{part};
 ghost use Rattle.lexeme.specs.Sorts.{noRow};
 ghost use Rattle.statement_rows.specs.Rows.{fieldsBy};
-ghost use Rattle.parse.specs.Coded.{made, finished, rowStep, nopStep, bareRow, unfitAt, codedStatement};
+ghost use Rattle.parse.specs.Coded.{made, finished, rowStep, nopStep, bareRow, unfitAt, dotRead, codedStatement};
 
 // A statement: what it does; its word or number as far as it is known; the number of values of its label operand's field (0: no label operand) and the
 // label's place; its string's place; its span, from the instruction or directive to the last operand; and where the next statement begins.
@@ -151,4 +151,56 @@ fn instruction(src: &[u8], t: Lexeme) -> NextStatement
         return nop_read(src, row, t);
     }
     row_read(src, row, t, 14)
+}
+
+// A directive's name: the part of the source after the dot.
+fn name_after(src: &[u8], dot: usize, end: usize) -> &[u8]
+    ensures { λ r. ⌜ now r ≡ part (now (src .entry)) (dot + 1) end ⌝ }
+{
+    if src.len() <= dot {
+        return &src[0..0];
+    }
+    let start = dot + 1;
+    if src.len() < end {
+        return &src[start..];
+    }
+    if end < start {
+        return &src[0..0];
+    }
+    &src[start..end]
+}
+
+// The statement of a directive; an unknown one is 13.
+fn directive(src: &[u8], t: Lexeme) -> NextStatement
+    ensures { λ r. ⌜ ((ls : List Name) (k : Kind) → r ≡ codedStatement (dotRead (now (src .entry)) ls (map upper (part (now (src .entry)) (t .start + 1) (t .end))) (tokenIn k (span (t .start) (t .end))))) ⌝ }
+{
+    let code = statement_rows::directive_code(name_after(src, t.start, t.end));
+    if code < 38 {
+        return row_read(src, statement_rows::row_at(code), t, 14);
+    }
+    refused(13, t)
+}
+
+// The statement that begins at a place or after it.
+pub fn next_statement(src: &[u8], at: usize) -> NextStatement
+    ensures { λ r. ⌜ r ≡ codedStatement (nextStatement (now (src .entry)) at) ⌝ }
+{
+    let walk = labels::walk_labels(src, at);
+    let t = next_lexeme(src, walk.head);
+    if t.sort == 5 {
+        return instruction(src, t);
+    }
+    if t.sort == 6 {
+        return directive(src, t);
+    }
+    if t.sort == 3 {
+        return refused(16, t);
+    }
+    if t.sort == 10 {
+        if walk.labelled {
+            return refused(13, t);
+        }
+        return NextStatement::End;
+    }
+    unfit(t)
 }
