@@ -8,7 +8,7 @@ use Rattle.rules.specs.Base.{if_then_else_, Outcome, ok, refused}
 use Rattle.rules.specs.Words.{instr, orig, fill, blkw, stringz, end, external, directives, find}
 use Rattle.rules.specs.Words as words
 use Rattle.rules.specs.Tokens.{Token}
-use Rattle.rules.specs.Statements.{Name, Read, need, ends, tokenIs, lineEnd, rowRead}
+use Rattle.rules.specs.Statements.{Name, Stmt, Read, need, ends, tokenIs, lineEnd, rowRead}
 use Rattle.lexeme.specs.declared.Lexeme.{Lexeme}
 use Rattle.operands.specs.declared.Given.{Given}
 use Rattle.operands.specs.declared.Step.{Step}
@@ -23,6 +23,9 @@ use Rattle.parse.specs.declared.Statement.{Statement}
 use Rattle.parse.specs.declared.NextStatement.{NextStatement}
 use Rattle.parse.specs.declared.NextStatement.the-variants.{End, Refused}
 use Rattle.parse.specs.declared.NextStatement.the-variants as next
+use Rattle.parse.specs.declared.Statements.{Statements}
+use Rattle.parse.specs.declared.Statements.the-variants.{Accepted}
+use Rattle.parse.specs.declared.Statements.the-variants as all
 
 -- WHAT THE RULES ANSWER
 
@@ -54,6 +57,11 @@ unfoldable pub codedStatement : Outcome (Option Read) → NextStatement
 codedStatement (ok none) = End
 codedStatement (ok (some r)) = next.Read (codedRead r)
 codedStatement (refused r) = Refused (r .number) (r .first .start) (r .first .stop)
+
+-- all statements of a source: accepted, or the first refusal
+unfoldable pub codedStatements : Outcome (List Stmt) → Statements
+codedStatements (ok ss) = Accepted
+codedStatements (refused r) = all.Refused (r .number) (r .first .start) (r .first .stop)
 
 -- STEPS ON THE WAY
 

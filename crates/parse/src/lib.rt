@@ -12,11 +12,11 @@ ghost use lib.ListN.{getD};
 ghost use Rattle.rules.specs.Base.{span};
 ghost use Rattle.rules.specs.Tokens.{Kind, tokenIn, upper};
 ghost use Rattle.rules.specs.Words.{instructions};
-ghost use Rattle.rules.specs.Statements.{Name, instrRead, nextStatement};
+ghost use Rattle.rules.specs.Statements.{Name, instrRead, nextStatement, statements};
 ghost use Rattle.token.specs.Meant.{part};
 ghost use Rattle.lexeme.specs.Sorts.{noRow};
 ghost use Rattle.statement_rows.specs.Rows.{fieldsBy};
-ghost use Rattle.parse.specs.Coded.{made, finished, rowStep, nopStep, bareRow, unfitAt, dotRead, codedStatement};
+ghost use Rattle.parse.specs.Coded.{made, finished, rowStep, nopStep, bareRow, unfitAt, dotRead, codedStatement, codedStatements};
 
 // A statement: what it does; its word or number as far as it is known; the number of values of its label operand's field (0: no label operand) and the
 // label's place; its string's place; its span, from the instruction or directive to the last operand; and where the next statement begins.
@@ -37,6 +37,16 @@ pub struct Statement {
 pub enum NextStatement {
     Read(Statement),
     End,
+    Refused {
+        number: u16,
+        start: usize,
+        end: usize,
+    },
+}
+
+// What reading all statements of a source answers.
+pub enum Statements {
+    Accepted,
     Refused {
         number: u16,
         start: usize,
@@ -203,4 +213,25 @@ pub fn next_statement(src: &[u8], at: usize) -> NextStatement
         return NextStatement::End;
     }
     unfit(t)
+}
+
+// The first refusal of a source's statements, where there is one.
+pub fn first_refusal(src: &[u8]) -> Statements
+    ensures { λ r. ⌜ r ≡ codedStatements (statements (now (src .entry))) ⌝ }
+{
+    let mut at = 0;
+    loop {
+        let statement = next_statement(src, at);
+        match statement {
+            NextStatement::Read(s) => {
+                at = s.next;
+            }
+            NextStatement::End => {
+                return Statements::Accepted;
+            }
+            NextStatement::Refused { number, start, end } => {
+                return Statements::Refused { number, start, end };
+            }
+        }
+    }
 }
