@@ -1,3 +1,4 @@
 -- Laws of the lexer: each way from a token's first byte. Assumes nothing.
 pub mod Told
 pub mod First
+pub mod LabelLaws

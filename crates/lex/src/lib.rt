@@ -7,6 +7,7 @@ ghost use Rattle.rules.specs.Tokens.{letter, space, wordAt, afterR, afterX, aft
 ghost use Rattle.text.specs.Runs.{from};
 ghost use Rattle.token.specs.Coded.{coded, told};
 ghost use Rattle.token.specs.Meant.{meant};
+ghost use Rattle.lex.specs.Label.{labelText};
 ghost use Rattle.lex.specs.Ways.{afterReturn, afterSemicolon, afterOther};
 use literals::Scanned;
 use text::Class;
@@ -267,4 +268,17 @@ pub fn next_token(src: &[u8], at: usize) -> Next
         return token_at(src, start);
     }
     Next::End(start)
+}
+
+// A label token's text, as the part of the source where it stands; empty where the span lies not in the source.
+pub fn label_text(src: &[u8], start: usize, end: usize) -> &[u8]
+    ensures { λ r. ⌜ now r ≡ labelText (now (src .entry)) start end ⌝ }
+{
+    if start <= end {
+        if end <= src.len() {
+            return &src[start..end];
+        }
+        return &src[..0];
+    }
+    &src[..0]
 }

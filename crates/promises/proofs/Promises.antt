@@ -1,14 +1,17 @@
 -- WHAT IS PROVED. Each final theorem of the project, stated here and cited from its proof; the words that it uses are defined in crate `rules`.
 -- Assumes nothing.
 use Prim.Native.Nat.{ℕ, _^_, _<_}
-use mathlib.Core.Bool.{true}
+use mathlib.Core.Bool.{Bool, true, false}
 use mathlib.Core.List.{List, _∷_}
 use mathlib.Core.Option.{some}
 use mathlib.Core.Path.{_≡_}
 use Rattle.rules.specs.Tokens.{Match, tokenAt}
 use Rattle.rules.specs.Patterns.{patterns, LongestMatch}
 use Rattle.rules.specs.Examples.{EveryRow}
-use Rattle.rules.specs.Words.{signed, fits, field, extend, Instr, word, disassemble, Shown}
+use Rattle.rules.specs.Base.{nowhere}
+use Rattle.rules.specs.Statements.{fit}
+use Rattle.rules.specs.Words as R
+use Rattle.rules.specs.Words.{Range, signed, offset, fits, reach, field, extend, Instr, word, disassemble, line, Shown}
 use Rattle.rules.specs.Objects.{Object, countsOf, Good}
 use Rattle.rules.specs.Buffers.{Buffers, view, layout}
 use Rattle.rules.specs.Examples as Examples
@@ -17,6 +20,18 @@ use Rattle.rules.proofs.Fields as Fields
 use Rattle.rules.proofs.Fields.{Width}
 use Rattle.rules.proofs.Disassembly as Disassembly
 use Rattle.rules.proofs.Laid as Laid
+use Rattle.words.specs.Fields.{encoded, meantBits, meantOffset, whole}
+use Rattle.words.specs.Instructions.{meant}
+use Rattle.words.specs.Disassembly.{meantIf, meantLine}
+use Rattle.words.specs.declared.AsmInstr.{AsmInstr}
+use Rattle.words.specs.declared.fields.Encoded.{Encoded}
+use Rattle.words.specs.declared.fields.Encoded.the-variants.{Bits}
+use Rattle.words.specs.declared.fields.Replaced.{Replaced}
+use Rattle.words.specs.declared.fields.Replaced.the-variants.{Offset, OffsetNewErr}
+use Rattle.words.specs.declared.disassembly.Disassembled.{Disassembled}
+use Rattle.words.specs.declared.disassembly.Disassembled.the-variants as D
+use Rattle.words.specs.declared.disassembly.Line.{Line}
+use Rattle.words.proofs.Promises as Words
 
 -- TOKENS. Each token is the longest match of the patterns of lex.rs at its place, at equal length of the pattern declared first:
 -- a number or register before a word. It is so of every first byte and every rest, and there is one longest match only.
@@ -51,3 +66,39 @@ encoded-shows = Disassembly.encoded-shows
 -- OBJECTS. Whatever buffers a good object is written into, the object that stands in them is that object.
 pub view-of-layout : (o : Object) (b : Buffers) → Good o → view (countsOf o) (layout o b) ≡ o
 view-of-layout = Laid.view-layout
+
+-- THE CODE OF WORDS, crate `words`: an instruction's meaning is the rule's of the same name, and the contracts are the equations below.
+-- `encode`, then `try_disassemble_line`: the instruction, up to the names that share a word; and the other way round the word.
+pub encode-disassemble :
+    (i : AsmInstr) (r : Encoded) (w : ℕ) (d : Disassembled) → r ≡ encoded (word (meant i)) → r ≡ Bits w → meantIf d ≡ disassemble w → Shown (meant i) (meantIf d)
+encode-disassemble = Words.encode-disassemble
+
+pub disassemble-encode : (w : ℕ) (d : Disassembled) (i : AsmInstr) (r : Encoded) → meantIf d ≡ disassemble w → d ≡ D.Instr i → r ≡ encoded (word (meant i)) → r ≡ Bits w
+disassemble-encode = Words.disassemble-encode
+
+-- `replace_pc_offset9` and `replace_pc_offset11`: 29 exactly where the offset lies outside the field.
+pub refused-outside : (f : Range) (label pc : ℕ) (r : Replaced) → meantOffset r ≡ reach f label pc nowhere → fits f (offset label pc) ≡ false → r ≡ OffsetNewErr
+refused-outside = Words.refused-outside
+
+pub accepted-inside : (f : Range) (label pc : ℕ) (r : Replaced) → meantOffset r ≡ reach f label pc nowhere → fits f (offset label pc) ≡ true → r ≡ Offset (offset label pc)
+accepted-inside = Words.accepted-inside
+
+-- Two answers that a contract allows are equal: `encode`; `try_disassemble_line`; `disassemble_line`; `imm5` to `trap8`; `replace_pc_offset9` and `11`; `low5` to `low11`.
+pub encode-one-answer : (i : AsmInstr) (r s : Encoded) → r ≡ encoded (word (meant i)) → s ≡ encoded (word (meant i)) → r ≡ s
+encode-one-answer = Words.encode-one-answer
+
+pub try-disassemble-one-answer : (w : ℕ) (r s : Disassembled) → meantIf r ≡ disassemble w → meantIf s ≡ disassemble w → r ≡ s
+try-disassemble-one-answer = Words.try-disassemble-one-answer
+
+pub disassemble-line-one-answer : (w : ℕ) (r s : Line) → meantLine r ≡ line w → meantLine s ≡ line w → r ≡ s
+disassemble-line-one-answer = Words.disassemble-line-one-answer
+
+pub number-one-answer :
+    (f : Range) (negative : Bool) (size : ℕ) (r s : Encoded) → meantBits r ≡ fit f (whole negative size) nowhere → meantBits s ≡ fit f (whole negative size) nowhere → r ≡ s
+number-one-answer = Words.number-one-answer
+
+pub offset-one-answer : (f : Range) (label pc : ℕ) (r s : Replaced) → meantOffset r ≡ reach f label pc nowhere → meantOffset s ≡ reach f label pc nowhere → r ≡ s
+offset-one-answer = Words.offset-one-answer
+
+pub value-one-answer : (f : Range) (d : ℕ) (r s : Encoded) → r ≡ encoded (R.bits (R.num f) (R.value d)) → s ≡ encoded (R.bits (R.num f) (R.value d)) → r ≡ s
+value-one-answer = Words.value-one-answer

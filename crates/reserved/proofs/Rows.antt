@@ -104,3 +104,8 @@ module _ (w : List ℕ) {i last : ℕ} {z : Ident} where
   pub search-done : findIn (last - i) i w ≡ z → last ≤ i → Label ≡ z
   unfolding findIn
   search-done g h = let e : last - i ≡ 0 = omega arith in rw e at g
+
+-- no row
+pub find-none : (a b : ℕ) (w : List ℕ) → b ≤ a → Label ≡ findIn (b - a) a w
+unfolding findIn
+find-none a b w h = let e : b - a ≡ 0 = omega arith in rw e

@@ -6,7 +6,7 @@ ghost use lib.ListN.{getD};
 ghost use Rattle.rules.specs.Base.{same};
 ghost use Rattle.rules.specs.Tokens.{upper};
 ghost use Rattle.reserved.specs.Ident.{identOf};
-ghost use Rattle.reserved.specs.Table.{row, firstRow, nameOf, findIn};
+ghost use Rattle.reserved.specs.Table.{words, row, firstRow, nameOf, findIn};
 
 // What a word is: reserved, with the code of its instruction, or a label. The codes count the instructions from 0 in the order of lex.rs.
 pub enum Ident {
@@ -51,7 +51,7 @@ const WORDS: [[u8; 7]; 32] = [
 ];
 
 // For each letter, and past Z, how many rows stand before its first.
-const STARTS: [usize; 27] = [
+const STARTS: [u8; 27] = [
     0,
     2,
     10,
@@ -82,11 +82,17 @@ const STARTS: [usize; 27] = [
 ];
 
 // A cell of the table.
-fn cell(i: usize, j: usize) -> u8
-    requires { ⌜ (i < 32) × (j < 7) ⌝ }
+fn cell(table: &[[u8; 7]; 32], i: usize, j: usize) -> u8
+    requires { ⌜ (now table ≡ words) × (i < 32) × (j < 7) ⌝ }
     ensures { λ r. ⌜ r ≡ getD (row i) j 0 ⌝ }
 {
-    WORDS[i][j]
+    table[i][j]
+}
+
+fn wide(b: u8) -> usize
+    ensures { λ r. ⌜ r ≡ b ⌝ }
+{
+    b as usize
 }
 
 // The row where the words of a letter begin, or those of the letter after Z would.
@@ -94,20 +100,20 @@ fn first_row(letter: u8) -> usize
     requires { ⌜ (65 ≤ letter) × (letter ≤ 91) ⌝ }
     ensures { λ r. ⌜ r ≡ firstRow letter ⌝ }
 {
-    let k = (letter - 65) as usize;
-    STARTS[k]
+    let k = wide(letter - 65);
+    wide(STARTS[k])
 }
 
 // Whether s is in upper case the word of row i.
-fn row_is(i: usize, s: &[u8]) -> bool
-    requires { ⌜ i < 32 ⌝ }
+fn row_is(table: &[[u8; 7]; 32], i: usize, s: &[u8]) -> bool
+    requires { ⌜ (now table ≡ words) × (i < 32) ⌝ }
     ensures { λ r. ⌜ r ≡ same (map upper (now (s .entry))) (nameOf (row i)) ⌝ }
 {
-    let n = cell(i, 5) as usize;
+    let n = wide(cell(table, i, 5));
     if n == s.len() {
         let mut j = 0;
         while j < n {
-            if text::upper_case(s[j]) == cell(i, j) {
+            if text::upper_case(s[j]) == cell(table, i, j) {
                 j += 1;
             } else {
                 return false;
@@ -119,14 +125,14 @@ fn row_is(i: usize, s: &[u8]) -> bool
 }
 
 // The code of the word that s is among the rows from first up to last.
-fn find_row(s: &[u8], first: usize, last: usize) -> Ident
-    requires { ⌜ (first ≤ last) × (last ≤ 32) ⌝ }
+fn find_row(table: &[[u8; 7]; 32], s: &[u8], first: usize, last: usize) -> Ident
+    requires { ⌜ (now table ≡ words) × (first ≤ last) × (last ≤ 32) ⌝ }
     ensures { λ r. ⌜ r ≡ findIn (last - first) first (map upper (now (s .entry))) ⌝ }
 {
     let mut i = first;
     while i < last {
-        if row_is(i, s) {
-            return Ident::Reserved(cell(i, 6));
+        if row_is(table, i, s) {
+            return Ident::Reserved(cell(table, i, 6));
         }
         i += 1;
     }
@@ -150,6 +156,11 @@ pub fn ident_of(s: &[u8]) -> Ident
     if 90 < letter {
         return Ident::Label;
     }
-    let next = letter + 1;
-    find_row(s, first_row(letter), first_row(next))
+    let first = first_row(letter);
+    let last = first_row(letter + 1);
+    if last <= first {
+        return Ident::Label;
+    }
+    let table = WORDS;
+    find_row(&table, s, first, last)
 }

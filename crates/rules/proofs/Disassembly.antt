@@ -9,7 +9,7 @@ use lib.Dec.{eqb, leb, ltb}
 use lib.ListN.{getD}
 use borrow.Author.Tests.{le-ltb, lt-ltb, le-leb, leb-true, leb-false, eq-eqb, eqb-true, eqb-false, ne-eqb}
 use Rattle.rules.specs.Base.{if_then_else_, bytes, same}
-use Rattle.rules.specs.Words.{Range, signed, unsigned, Field, reg, regOrImm, num, near, DR, SR, instructions, find, fits, field, extend, Operand, register, value, Instr, ADD, AND, NOT, BR, JMP, JSRR, JSR, NOP, LD, LDI, LEA, ST, STI, LDR, STR, TRAP, RET, RTI, GETC, OUT, PUTC, PUTS, IN, PUTSP, HALT, bits, joined, made, branch, word, cases, at9, at6, low, last, trap, jump, equals, exactly, disassemble, Shown, itself, out, ret, getc, putc, puts, in′, putsp, halt, nop, br}
+use Rattle.rules.specs.Words.{Range, signed, unsigned, Field, reg, regOrImm, num, near, DR, SR, instructions, find, fits, field, extend, Operand, register, value, Instr, ADD, AND, NOT, BR, JMP, JSRR, JSR, NOP, LD, LDI, LEA, ST, STI, LDR, STR, TRAP, RET, RTI, GETC, OUT, PUTC, PUTS, IN, PUTSP, HALT, bits, _⊕_, joined, made, branch, word, cases, at9, at6, low, last, trap, jump, equals, exactly, disassemble, Shown, itself, out, ret, getc, putc, puts, in′, putsp, halt, nop, br}
 use Rattle.rules.proofs.Fields.{by-test, Width, field-below, extend-field, field-unsigned, below-unsigned}
 
 -- disassembling a word to an instruction and encoding that gives the word
@@ -36,43 +36,50 @@ disassembled-encodes w i e = above (ltb w 512) e where
 -- one operand of an instruction's word: it fits, and the rest goes on with its bits added
 record Peeled (t : Bool) (w : ℕ) (fs : List Field) (os : List Operand) (v : ℕ) : Type 0 where
   pub holds : t ≡ true
-  pub rest : joined w fs os ≡ some v
+  pub rest : joined (some w) fs os ≡ some v
+
+joined-none : (fs : List Field) (os : List Operand) → joined none fs os ≡ none
+unfolding joined _⊕_
+joined-none [] [] = refl
+joined-none [] (o ∷ os) = refl
+joined-none (f ∷ fs) [] = refl
+joined-none (f ∷ fs) (o ∷ os) = joined-none fs os
 
 module _ (w : ℕ) (fs : List Field) (os : List Operand) (v : ℕ) where
-  peel : (f : Field) (o : Operand) (t : Bool) (n : ℕ) → bits f o ≡ (if t then some n else none) → joined w (f ∷ fs) (o ∷ os) ≡ some v → Peeled t (w + n) fs os v
-  unfolding joined if_then_else_
-  peel f o true n b e = record { holds = refl; rest = subst (λ (x : Option ℕ). elim x [ none ↦ none | some b ↦ joined (w + b) fs os ] ≡ some v) b e }
+  peel : (f : Field) (o : Operand) (t : Bool) (n : ℕ) → bits f o ≡ (if t then some n else none) → joined (some w) (f ∷ fs) (o ∷ os) ≡ some v → Peeled t (w + n) fs os v
+  unfolding joined if_then_else_ _⊕_
+  peel f o true n b e = record { holds = refl; rest = subst (λ (x : Option ℕ). joined (some w ⊕ x) fs os ≡ some v) b e }
   peel f o false n b e =
-      let h : _≡_ {A = Option ℕ} none (some v) = subst (λ (x : Option ℕ). elim x [ none ↦ none | some b ↦ joined (w + b) fs os ] ≡ some v) b e in
-      let z : _≡_ {A = ℕ} 0 1 = cc in
+      let h : joined none fs os ≡ some v = subst (λ (x : Option ℕ). joined (some w ⊕ x) fs os ≡ some v) b e in
+      let z : _≡_ {A = ℕ} 0 1 = cc (joined-none fs os) in
       absurd (omega arith)
 
-  of-reg : (m r : ℕ) → joined w (reg m ∷ fs) (register r ∷ os) ≡ some v → Peeled (leb r 7) (w + r * m) fs os v
+  of-reg : (m r : ℕ) → joined (some w) (reg m ∷ fs) (register r ∷ os) ≡ some v → Peeled (leb r 7) (w + r * m) fs os v
   unfolding bits
   of-reg m r e = peel (reg m) (register r) (leb r 7) (r * m) refl e
 
-  of-near : (r : Range) (d : ℕ) → joined w (near r ∷ fs) (value d ∷ os) ≡ some v → Peeled (fits r d) (w + field r d) fs os v
+  of-near : (r : Range) (d : ℕ) → joined (some w) (near r ∷ fs) (value d ∷ os) ≡ some v → Peeled (fits r d) (w + field r d) fs os v
   unfolding bits
   of-near r d e = peel (near r) (value d) (fits r d) (field r d) refl e
 
-  of-num : (r : Range) (d : ℕ) → joined w (num r ∷ fs) (value d ∷ os) ≡ some v → Peeled (fits r d) (w + field r d) fs os v
+  of-num : (r : Range) (d : ℕ) → joined (some w) (num r ∷ fs) (value d ∷ os) ≡ some v → Peeled (fits r d) (w + field r d) fs os v
   unfolding bits
   of-num r d e = peel (num r) (value d) (fits r d) (field r d) refl e
 
-  of-last : (r : ℕ) → joined w (regOrImm ∷ fs) (register r ∷ os) ≡ some v → Peeled (leb r 7) (w + r) fs os v
+  of-last : (r : ℕ) → joined (some w) (regOrImm ∷ fs) (register r ∷ os) ≡ some v → Peeled (leb r 7) (w + r) fs os v
   unfolding bits
   of-last r e = peel regOrImm (register r) (leb r 7) r refl e
 
-  of-imm : (d : ℕ) → joined w (regOrImm ∷ fs) (value d ∷ os) ≡ some v → Peeled (fits (signed 5) d) (w + (32 + field (signed 5) d)) fs os v
+  of-imm : (d : ℕ) → joined (some w) (regOrImm ∷ fs) (value d ∷ os) ≡ some v → Peeled (fits (signed 5) d) (w + (32 + field (signed 5) d)) fs os v
   unfolding bits
   of-imm d e = peel regOrImm (value d) (fits (signed 5) d) (32 + field (signed 5) d) refl e
 
-done : (w v : ℕ) → joined w [] [] ≡ some v → w ≡ v
+done : (w v : ℕ) → joined (some w) [] [] ≡ some v → w ≡ v
 unfolding joined
 done w v e = cc
 
 -- the case of the word's four high bits is the instruction whose word it is
-found : (k : ℕ) (i : Instr) (w : ℕ) → 512 ≤ w → w / 4096 ≡ k → getD (cases w) k none ≡ some i → word i ≡ some w → disassemble w ≡ some i
+pub found : (k : ℕ) (i : Instr) (w : ℕ) → 512 ≤ w → w / 4096 ≡ k → getD (cases w) k none ≡ some i → word i ≡ some w → disassemble w ≡ some i
 unfolding disassemble exactly equals if_then_else_
 found k i w l p c e = rw (le-ltb w 512 l, p, c, e, eq-eqb w w refl)
 
@@ -89,7 +96,7 @@ record Nine (k d o w : ℕ) : Type 0 where
   pub first : at9 w ≡ d
   pub third : low 9 w ≡ o
 
-nine : (k d o w : ℕ) → joined (k * 4096) (DR ∷ near (signed 9) ∷ []) (register d ∷ value o ∷ []) ≡ some w → Nine k d o w
+nine : (k d o w : ℕ) → joined (some (k * 4096)) (DR ∷ near (signed 9) ∷ []) (register d ∷ value o ∷ []) ≡ some w → Nine k d o w
 nine k d o w e =
     let a = of-reg _ _ _ _ 512 d e in
     let b = of-near _ _ _ _ (signed 9) o (a .rest) in
@@ -105,7 +112,7 @@ record Six (k d b o w : ℕ) : Type 0 where
   pub second : at6 w ≡ b
   pub third : low 6 w ≡ o
 
-six : (k d b o w : ℕ) → joined (k * 4096) (DR ∷ SR ∷ num (signed 6) ∷ []) (register d ∷ register b ∷ value o ∷ []) ≡ some w → Six k d b o w
+six : (k d b o w : ℕ) → joined (some (k * 4096)) (DR ∷ SR ∷ num (signed 6) ∷ []) (register d ∷ register b ∷ value o ∷ []) ≡ some w → Six k d b o w
 six k d b o w e =
     let x = of-reg _ _ _ _ 512 d e in
     let y = of-reg _ _ _ _ 64 b (x .rest) in
@@ -134,7 +141,7 @@ record Three (k d s : ℕ) (o : Operand) (w : ℕ) : Type 0 where
   pub second : at6 w ≡ s
   pub third : last w ≡ o
 
-three : (k d s : ℕ) (o : Operand) (w : ℕ) → joined (k * 4096) (DR ∷ SR ∷ regOrImm ∷ []) (register d ∷ register s ∷ o ∷ []) ≡ some w → Three k d s o w
+three : (k d s : ℕ) (o : Operand) (w : ℕ) → joined (some (k * 4096)) (DR ∷ SR ∷ regOrImm ∷ []) (register d ∷ register s ∷ o ∷ []) ≡ some w → Three k d s o w
 unfolding if_then_else_
 three k d s (register t) w e =
     let x = of-reg _ _ _ _ 512 d e in
@@ -180,7 +187,7 @@ record Base (k b w : ℕ) : Type 0 where
   pub zeros : w ≡ k * 4096 + b * 64
   pub small : b ≤ 7
 
-base : (k b w : ℕ) → joined (k * 4096) (SR ∷ []) (register b ∷ []) ≡ some w → Base k b w
+base : (k b w : ℕ) → joined (some (k * 4096)) (SR ∷ []) (register b ∷ []) ≡ some w → Base k b w
 base k b w e =
     let x = of-reg _ _ _ _ 64 b e in
     let s = done _ _ (x .rest) in
@@ -200,7 +207,7 @@ record Not (d s w : ℕ) : Type 0 where
   pub first : at9 w ≡ d
   pub second : at6 w ≡ s
 
-negation : (d s w : ℕ) → joined 0x903f (DR ∷ SR ∷ []) (register d ∷ register s ∷ []) ≡ some w → Not d s w
+negation : (d s w : ℕ) → joined (some 0x903f) (DR ∷ SR ∷ []) (register d ∷ register s ∷ []) ≡ some w → Not d s w
 negation d s w e =
     let x = of-reg _ _ _ _ 512 d e in
     let y = of-reg _ _ _ _ 64 s (x .rest) in
@@ -216,7 +223,7 @@ record Eleven (o w : ℕ) : Type 0 where
   pub bit : w / 2048 % 2 ≡ 0 → ⊥
   pub third : low 11 w ≡ o
 
-eleven : (o w : ℕ) → joined 0x4800 (near (signed 11) ∷ []) (value o ∷ []) ≡ some w → Eleven o w
+eleven : (o w : ℕ) → joined (some 0x4800) (near (signed 11) ∷ []) (value o ∷ []) ≡ some w → Eleven o w
 eleven o w e =
     let b = of-near _ _ _ _ (signed 11) o e in
     let s = done _ _ (b .rest) in
@@ -242,17 +249,17 @@ fill : (w : ℕ) → w < 512 → disassemble w ≡ none
 unfolding disassemble if_then_else_
 fill w l = rw (lt-ltb w 512 l)
 
-low9 : (b o w : ℕ) → joined b (near (signed 9) ∷ []) (value o ∷ []) ≡ some w → (fits (signed 9) o ≡ true) × (field (signed 9) o < 512) × (w ≡ b + field (signed 9) o)
+low9 : (b o w : ℕ) → joined (some b) (near (signed 9) ∷ []) (value o ∷ []) ≡ some w → (fits (signed 9) o ≡ true) × (field (signed 9) o < 512) × (w ≡ b + field (signed 9) o)
 low9 b o w e =
     let x = of-near _ _ _ _ (signed 9) o e in
     let s = done _ _ (x .rest) in
     (x .holds, field-below 9 (wide 9 (omega arith) (omega arith)) o, omega arith)
 
-below : (o w : ℕ) → joined 0 (near (signed 9) ∷ []) (value o ∷ []) ≡ some w → disassemble w ≡ none
+below : (o w : ℕ) → joined (some 0) (near (signed 9) ∷ []) (value o ∷ []) ≡ some w → disassemble w ≡ none
 below o w e = let h = low9 0 o w e in fill w (omega arith)
 
 -- a branch, by n, z and p
-branched : (c o w : ℕ) → 1 ≤ c → c ≤ 7 → joined (c * 512) (near (signed 9) ∷ []) (value o ∷ []) ≡ some w → word (BR c o) ≡ some w → Shown (BR c o) (disassemble w)
+branched : (c o w : ℕ) → 1 ≤ c → c ≤ 7 → joined (some (c * 512)) (near (signed 9) ∷ []) (value o ∷ []) ≡ some w → word (BR c o) ≡ some w → Shown (BR c o) (disassemble w)
 unfolding cases
 branched c o w l m e f =
     let h = low9 (c * 512) o w e in
@@ -294,7 +301,7 @@ named (suc (suc (suc (suc (suc (suc k)))))) v w p l q e =
     let s : v - 32 ≡ suc (suc (suc (suc (suc (suc k))))) = omega arith in
     trapped v w l q (rw (le-leb 32 v (omega arith), s)) e
 
-trap-shows : (v w : ℕ) → joined 0xf000 (num (unsigned 8) ∷ []) (value v ∷ []) ≡ some w → word (TRAP v) ≡ some w → Shown (TRAP v) (disassemble w)
+trap-shows : (v w : ℕ) → joined (some 0xf000) (num (unsigned 8) ∷ []) (value v ∷ []) ≡ some w → word (TRAP v) ≡ some w → Shown (TRAP v) (disassemble w)
 unfolding if_then_else_
 trap-shows v w e f =
     let x = of-num _ _ _ _ (unsigned 8) v e in
@@ -341,3 +348,68 @@ encoded-shows PUTS w e = fixed PUTS 0xf022 w refl (itself PUTS) e
 encoded-shows IN w e = fixed IN 0xf023 w refl (itself IN) e
 encoded-shows PUTSP w e = fixed PUTSP 0xf024 w refl (itself PUTSP) e
 encoded-shows HALT w e = fixed HALT 0xf025 w refl (itself HALT) e
+
+-- x21 as PUTC, xC1C0 as RET; fills: another word than its instruction's, every word below x0200, opcode D
+pub named-words : (disassemble 0xf021 ≡ some PUTC) × (disassemble 0xc1c0 ≡ some RET)
+unfolding word made find instructions joined disassemble exactly equals cases if_then_else_
+named-words = (refl, refl)
+
+pub fill-words : (disassemble 0xc8c0 ≡ none) × (disassemble 0x01ff ≡ none) × (disassemble 0xd000 ≡ none)
+unfolding word made find instructions joined bits _⊕_ disassemble exactly equals cases if_then_else_
+fill-words = (refl, refl, refl)
+
+-- an instruction's word is sixteen bits
+constant : (i : Instr) (v w : ℕ) → word i ≡ some v → v < 65536 → word i ≡ some w → w < 65536
+constant i v w p l e = let q : v ≡ w = cc in omega arith
+
+low-word : (b o w : ℕ) → b + 512 ≤ 65536 → joined (some b) (near (signed 9) ∷ []) (value o ∷ []) ≡ some w → w < 65536
+low-word b o w l e = let h = low9 b o w e in omega arith
+
+branch-word : (c o w : ℕ) → word (BR c o) ≡ some w → w < 65536
+unfolding word made find instructions branch if_then_else_
+branch-word zero o w e = low-word 0 o w (omega arith) e
+branch-word (suc zero) o w e = low-word 512 o w (omega arith) e
+branch-word (suc (suc zero)) o w e = low-word 1024 o w (omega arith) e
+branch-word (suc (suc (suc zero))) o w e = low-word 1536 o w (omega arith) e
+branch-word (suc (suc (suc (suc zero)))) o w e = low-word 2048 o w (omega arith) e
+branch-word (suc (suc (suc (suc (suc zero))))) o w e = low-word 2560 o w (omega arith) e
+branch-word (suc (suc (suc (suc (suc (suc zero)))))) o w e = low-word 3072 o w (omega arith) e
+branch-word (suc (suc (suc (suc (suc (suc (suc zero))))))) o w e = low-word 3584 o w (omega arith) e
+branch-word (suc (suc (suc (suc (suc (suc (suc (suc n)))))))) o w e = let z : _≡_ {A = ℕ} 0 1 = cc in absurd (omega arith)
+
+trap-word : (v w : ℕ) → joined (some 0xf000) (num (unsigned 8) ∷ []) (value v ∷ []) ≡ some w → w < 65536
+trap-word v w e =
+    let x = of-num _ _ _ _ (unsigned 8) v e in
+    let s = done _ _ (x .rest) in
+    let ok = wide 8 (omega arith) (omega arith) in
+    let n = field-unsigned 8 ok v (x .holds) in
+    let l : v < 256 = below-unsigned 8 ok v (x .holds) in
+    omega arith
+
+pub word-below : (i : Instr) (w : ℕ) → word i ≡ some w → w < 65536
+unfolding word made find instructions joined if_then_else_
+word-below (ADD d s o) w e = let h = three 1 d s o w e in omega arith
+word-below (AND d s o) w e = let h = three 5 d s o w e in omega arith
+word-below (NOT d s) w e = let h = negation d s w e in omega arith
+word-below (BR nzp o) w e = branch-word nzp o w e
+word-below (JMP b) w e = let h = base 12 b w e in omega arith
+word-below (JSRR b) w e = let h = base 4 b w e in omega arith
+word-below (JSR o) w e = let h = eleven o w e in omega arith
+word-below (NOP o) w e = low-word 0 o w (omega arith) e
+word-below (LD d o) w e = let h = nine 2 d o w e in omega arith
+word-below (LDI d o) w e = let h = nine 10 d o w e in omega arith
+word-below (LEA d o) w e = let h = nine 14 d o w e in omega arith
+word-below (ST s o) w e = let h = nine 3 s o w e in omega arith
+word-below (STI s o) w e = let h = nine 11 s o w e in omega arith
+word-below (LDR d b o) w e = let h = six 6 d b o w e in omega arith
+word-below (STR s b o) w e = let h = six 7 s b o w e in omega arith
+word-below (TRAP v) w e = trap-word v w e
+word-below RET w e = constant RET 0xc1c0 w refl (omega arith) e
+word-below RTI w e = constant RTI 0x8000 w refl (omega arith) e
+word-below GETC w e = constant GETC 0xf020 w refl (omega arith) e
+word-below OUT w e = constant OUT 0xf021 w refl (omega arith) e
+word-below PUTC w e = constant PUTC 0xf021 w refl (omega arith) e
+word-below PUTS w e = constant PUTS 0xf022 w refl (omega arith) e
+word-below IN w e = constant IN 0xf023 w refl (omega arith) e
+word-below PUTSP w e = constant PUTSP 0xf024 w refl (omega arith) e
+word-below HALT w e = constant HALT 0xf025 w refl (omega arith) e

@@ -1,9 +1,10 @@
 -- The fields of a word, once over the width w, from 1 to 16: what fits, its bits, and the bits read back. Assumes nothing.
-use Prim.Native.Nat.{ℕ, zero, suc, _+_, _-_, _*_, _%_, _^_, _≤_, _<_}
+use Prim.Native.Nat.{ℕ, zero, suc, _+_, _-_, _*_, _%_, _^_, _≤_, _<_, zero-le}
 use native.Mathlib.Nat.{mod-lt, mod-eq-of-lt, add-mul-mod-self-right, mod-self, zero-mod, sub-zero, two-pow-succ}
 use native.Mathlib.Omega.{arith}
 use mathlib.Core.Bool.{Bool, true, false, _||_, _&&_}
 use mathlib.Core.Logic.{_⊎_, inl, inr, ⊎-elim}
+use mathlib.Core.Option.{Option, some}
 use mathlib.Core.Path.{_≡_, refl, ap, sym, subst, _∙_}
 use lib.Dec.{leb, ltb}
 use lib.Pow.{pow-pos, high-ones, pow-mono}
@@ -11,7 +12,7 @@ use borrow.Author.Tests.{lt-ltb, le-ltb, le-leb, lt-leb, leb-true, leb-false, lt
 use Rattle.rules.specs.Base.{if_then_else_}
 use Rattle.rules.specs.Tokens.{Num, plus, minus}
 use Rattle.rules.specs.Statements.{inRange, reduced}
-use Rattle.rules.specs.Words.{Range, signed, unsigned, fits, field, extend}
+use Rattle.rules.specs.Words.{Range, signed, unsigned, num, offset, fits, field, extend, value, bits}
 
 -- a test with its answer
 pub by-test : {A : Type 0} (t : Bool) → (t ≡ true → A) → (t ≡ false → A) → A
@@ -77,9 +78,8 @@ module _ (w : ℕ) (ok : Width w) where
   unfolding field
   field-below d = mod-lt d (pow-pos w)
 
-  field-high : (b : ℕ) → b < 2 ^ w → field (signed w) (b + (65536 - 2 ^ w)) ≡ b
-  unfolding field
-  field-high b l = ap (λ (k : ℕ). (b + k) % 2 ^ w) times ∙ add-mul-mod-self-right b (2 ^ (16 - w) - 1) (2 ^ w) ∙ mod-eq-of-lt l
+  pub high-bits : (b : ℕ) → b < 2 ^ w → (b + (65536 - 2 ^ w)) % 2 ^ w ≡ b
+  high-bits b l = ap (λ (k : ℕ). (b + k) % 2 ^ w) times ∙ add-mul-mod-self-right b (2 ^ (16 - w) - 1) (2 ^ w) ∙ mod-eq-of-lt l
 
   extend-low : (b : ℕ) → b < 2 ^ (w - 1) → extend w b ≡ b
   unfolding extend if_then_else_
@@ -95,7 +95,7 @@ module _ (w : ℕ) (ok : Width w) where
   field-extend b l =
       by-test (ltb b (2 ^ (w - 1)))
       (λ t. ap (field (signed w)) (extend-low b (ltb-true _ _ t)) ∙ mod-eq-of-lt l)
-      (λ t. ap (field (signed w)) (extend-high b (ltb-false _ _ t)) ∙ field-high b l)
+      (λ t. ap (field (signed w)) (extend-high b (ltb-false _ _ t)) ∙ high-bits b l)
 
   -- decoding undoes encoding
   pub extend-field : (d : ℕ) → fits (signed w) d ≡ true → extend w (field (signed w) d) ≡ d
@@ -110,7 +110,7 @@ module _ (w : ℕ) (ok : Width w) where
         let b : ℕ = d - (65536 - 2 ^ w) in
         let s : d ≡ b + (65536 - 2 ^ w) = omega (arith, halves, room) in
         let l : b < 2 ^ w = omega (arith, halves, room) in
-        let e : d % 2 ^ w ≡ b = ap (λ (k : ℕ). k % 2 ^ w) s ∙ field-high b l in
+        let e : d % 2 ^ w ≡ b = ap (λ (k : ℕ). k % 2 ^ w) s ∙ high-bits b l in
         ap (extend w) e ∙ extend-high b (omega (arith, halves, room)) ∙ sym s
 
   -- what is read back fits, and is sixteen bits
@@ -134,30 +134,55 @@ module _ (w : ℕ) (ok : Width w) where
   unfolding field
   field-unsigned d e = mod-eq-of-lt (below-unsigned d e)
 
+-- from the address after the instruction, a label's offset leads to the label
+pub offset-leads : (label next : ℕ) → label < 65536 → next < 65536 → (next + offset label next) % 65536 ≡ label
+unfolding offset
+offset-leads label next l n = omega arith
+
 -- a whole number that is read, modulo 65536
 pub sixteen : Num → ℕ
 sixteen (plus n) = n
 sixteen (minus n) = (65536 - n) % 65536
 
+-- the ranges of a width, signed or unsigned
+pub record OfWidth (w : ℕ) (r : Range) : Type 0 where
+  pub below : r .low ≤ 2 ^ w
+  pub above : r .high < 2 ^ w
+  pub whole : r .modulus ≡ 2 ^ w
+
 module _ (w : ℕ) (ok : Width w) where
-  minus-some : (n : ℕ) → 1 ≤ n → n ≤ 2 ^ (w - 1) → (65536 - n ≡ (2 ^ w - n) + (65536 - 2 ^ w)) × (2 ^ w - n < 2 ^ w)
-  minus-some n l h = (omega (arith, halves w ok, room w ok), omega (arith, halves w ok))
+  pub of-signed : OfWidth w (signed w)
+  of-signed = record { below = omega (arith, halves w ok); above = omega (arith, halves w ok, pow-pos (w - 1)); whole = refl }
 
-  -- a number in the range of a signed field: the reader's bits are the field of the number
-  pub number-field : (n : Num) → inRange (signed w) n ≡ true → reduced (signed w) n ≡ field (signed w) (sixteen n)
-  unfolding inRange reduced field sixteen
-  number-field (plus n) e = let h = leb-true n _ e in sym (mod-eq-of-lt (omega (arith, halves w ok, pow-pos (w - 1))))
-  number-field (minus zero) e = ap (λ (k : ℕ). k % 2 ^ w) (sub-zero (2 ^ w)) ∙ mod-self (2 ^ w) ∙ sym (zero-mod (2 ^ w))
-  number-field (minus (suc n)) e =
-      let h = leb-true (suc n) _ e in
-      let m = minus-some (suc n) (omega arith) h in
-      mod-eq-of-lt (m .1) ∙ sym (ap (λ (k : ℕ). k % 2 ^ w) (mod-eq-of-lt (omega arith) ∙ m .0) ∙ field-high w ok (2 ^ w - suc n) (m .1))
+  pub of-unsigned : OfWidth w (unsigned w)
+  of-unsigned = record { below = zero-le; above = omega (arith, pow-pos w); whole = refl }
 
-  pub number-fits : (n : Num) → inRange (signed w) n ≡ true → fits (signed w) (sixteen n) ≡ true
-  unfolding inRange sixteen
-  number-fits (plus n) e = fits-above (signed w) n (leb-true n _ e)
-  number-fits (minus zero) e = fits-above (signed w) 0 (omega arith)
-  number-fits (minus (suc n)) e =
-      let h = leb-true (suc n) _ e in
-      let m : (65536 - suc n) % 65536 ≡ 65536 - suc n = mod-eq-of-lt (omega arith) in
-      fits-below (signed w) _ (omega (arith, halves w ok, room w ok)) (omega arith)
+  module _ (r : Range) (k : OfWidth w r) where
+    -- below zero: modulo 2 ^ w and modulo 65536 give the same bits
+    minus-same : (n : ℕ) → suc n ≤ 2 ^ w → (2 ^ w - suc n) % 2 ^ w ≡ (65536 - suc n) % 65536 % 2 ^ w
+    minus-same n l =
+        let m : 65536 - suc n ≡ 2 ^ w - suc n + (65536 - 2 ^ w) = omega (arith, room w ok) in
+        let b : 2 ^ w - suc n < 2 ^ w = omega arith in
+        mod-eq-of-lt b ∙ sym (ap (λ (x : ℕ). x % 2 ^ w) (mod-eq-of-lt (omega arith) ∙ m) ∙ high-bits w ok (2 ^ w - suc n) b)
+
+    -- a number in the range: the reader's bits are the field of the number, and the number fits
+    pub number-field : (n : Num) → inRange r n ≡ true → reduced r n ≡ field r (sixteen n)
+    unfolding inRange reduced field sixteen
+    number-field (plus n) e = let h = leb-true n (r .high) e in rw (k .whole) (sym (mod-eq-of-lt (omega (arith, k .above))))
+    number-field (minus zero) e = rw (k .whole) (ap (λ (x : ℕ). x % 2 ^ w) (sub-zero (2 ^ w)) ∙ mod-self (2 ^ w) ∙ sym (zero-mod (2 ^ w)))
+    number-field (minus (suc n)) e = let h = leb-true (suc n) (r .low) e in rw (k .whole) (minus-same n (omega (arith, k .below)))
+
+    pub number-fits : (n : Num) → inRange r n ≡ true → fits r (sixteen n) ≡ true
+    unfolding inRange sixteen
+    number-fits (plus n) e = fits-above r n (leb-true n (r .high) e)
+    number-fits (minus zero) e = fits-above r 0 zero-le
+    number-fits (minus (suc n)) e =
+        let h = leb-true (suc n) (r .low) e in
+        let m : (65536 - suc n) % 65536 ≡ 65536 - suc n = mod-eq-of-lt (omega arith) in
+        let l : 65536 - r .low ≤ 65536 - suc n = omega arith in
+        rw m (fits-below r (65536 - suc n) l (omega arith))
+
+    -- so a number that is read adds to its statement's word what it adds to the instruction's
+    pub read-bits : (n : Num) → inRange r n ≡ true → bits (num r) (value (sixteen n)) ≡ some (reduced r n)
+    unfolding bits if_then_else_
+    read-bits n e = rw (number-fits n e, number-field n e)

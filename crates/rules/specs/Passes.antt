@@ -8,7 +8,7 @@ use lib.Dec.{eqb, leb, ltb}
 use Rattle.rules.specs.Base.{if_then_else_, Outcome, ok, refused, _>>=_, _>>_, require, refuse, refuse2, Span, span, nowhere, has}
 use Rattle.rules.specs.Capacities.{blockRoom, labelRoom, relocRoom}
 use Rattle.rules.specs.Tokens.{lexed}
-use Rattle.rules.specs.Words.{Range, offset, fits, field, Op, instr, orig, fill, blkw, stringz, end, external}
+use Rattle.rules.specs.Words.{Range, offset, fits, reach, field, Op, instr, orig, fill, blkw, stringz, end, external}
 use Rattle.rules.specs.Statements as S
 use Rattle.rules.specs.Statements.{Target, Stmt, statements}
 use Rattle.rules.specs.Tables.{Table, natOrder, nameOrder, look, insert, newer, mapT}
@@ -142,15 +142,16 @@ passOne (s ∷ ss) o = do
 unfoldable pub address : Table Name Symbol → S.Name → Outcome ℕ
 address ss n = elim (look nameOrder ss (n .text)) [ none ↦ refuse 31 (n .place) | some s ↦ ok (addressOf (s .lab)) ]
 
--- A label operand's offset is the label's address less the address after the instruction, modulo 65536, taken as signed; outside its field: 29.
-unfoldable pub reached : ℕ → ℕ → Range → Span → Outcome ℕ
-reached a pc r p = if fits r (offset a pc) then ok (field r (offset a pc)) else refuse 29 p
-
--- 30 of an external, 31 where there is no such label
+-- A label operand's offset, from the address after the instruction, in its field: 29 outside it; 30 of an external, 31 where there is no such label
 unfoldable pub offsetTo : Table Name Symbol → ℕ → Target → Outcome ℕ
 offsetTo ss pc t = elim (look nameOrder ss (t .name .text)) [
   | none ↦ refuse 31 (t .name .place)
-  | some s ↦ elim (s .lab) [ outer ↦ refuse 30 (t .name .place) | defined a ↦ reached a pc (t .field) (t .name .place) ]
+  | some s ↦ elim (s .lab) [
+    | outer ↦ refuse 30 (t .name .place)
+    | defined a ↦ do
+      d ← reach (t .field) a pc (t .name .place)
+      ok (field (t .field) d)
+  ]
 ]
 
 -- the words of a statement at an address; .blkw words are unset
@@ -257,5 +258,5 @@ assemble room source = do
   ok (object (map (λ b. (b .start, b .words)) (t .blocks)) (mapT (λ n s. s .lab) (o .symbols)) (o .relocs))
 
 unfoldable pub assembling : Unit {0}
-unfolding sizeOf addName addNames labelled relocated filled closed directed advanced passOne address offset fits field reached offsetTo wordsOf overlap overlapping place emit finish written passTwo assemble
+unfolding sizeOf addName addNames labelled relocated filled closed directed advanced passOne address offset fits reach field offsetTo wordsOf overlap overlapping place emit finish written passTwo assemble
 assembling = tt

@@ -1,12 +1,15 @@
-use mathlib.Core.Path.{refl}
-use Rattle.reserved.specs.Table.{words, row}
+use mathlib.Core.Path.{ap}
+use mathlib.Core.List.{List, []}
+use Prim.Native.Nat.{ℕ}
+use lib.ListN.{getD}
+use Rattle.reserved.specs.Table.{row}
 use borrow.Author.Needs.{needs}
 use Rattle.reserved.proofs.cell.Statement.{statement}
 use Rattle.reserved.proofs.cell.Tie as tie
 
 returns : tie.Need-returns
-unfolding words row
-returns c = refl
+unfolding row
+returns c = ap (λ (t : List (List ℕ)). getD (getD t (c .before .args .i) []) (c .before .args .j) 0) (c .before .pre .0)
 
 pub cell-spec : {M : Type 1} → statement M
 cell-spec =

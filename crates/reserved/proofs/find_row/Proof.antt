@@ -9,10 +9,10 @@ use Rattle.reserved.proofs.find_row.Statement.{statement}
 use Rattle.reserved.proofs.find_row.Tie as tie
 
 abbrev Inv-loop : tie.InvT-loop
-Inv-loop s first last i₀ i = findIn (last - i) i (map upper s) ≡ findIn (last - first) first (map upper s)
+Inv-loop table s first last i₀ i = findIn (last - i) i (map upper s) ≡ findIn (last - first) first (map upper s)
 
 abbrev μ-loop : tie.MeasureT-loop
-μ-loop s first last i₀ i = last - i
+μ-loop table s first last i₀ i = last - i
 
 pub find-row-spec : {M : Type 1} → statement M
 find-row-spec =

@@ -1,0 +1,21 @@
+-- `label_layout::lay_label` meets its contract. Assumes nothing.
+use Rattle.label_layout.proofs.Loop.{room-as, put-same}
+use borrow.Author.Needs.{needs}
+use Rattle.label_layout.proofs.lay_label.Statement.{statement}
+use Rattle.label_layout.proofs.lay_label.Tie as tie
+
+pub lay-label-spec : {M : Type 1} → statement M
+lay-label-spec =
+    tie.close
+    (tie.spec
+    (λ c. search needs)
+    (λ c. search needs)
+    (λ c. search needs)
+    (λ c. search needs)
+    (λ c. search needs)
+    (λ c. search needs)
+    (λ c κs. search needs)
+    (λ c κs. search (needs, room-as))
+    (λ c. search needs)
+    (λ c. search needs)
+    (λ c. search (needs, put-same)))

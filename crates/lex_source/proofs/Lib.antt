@@ -1,0 +1,2 @@
+-- Laws of the walk over a whole source. Assumes nothing.
+pub mod WalkSteps

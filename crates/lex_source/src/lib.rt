@@ -1,0 +1,75 @@
+// The first refusal of a whole source by the lexer's rules: 11, 12, then 1 to 10 in source order.
+ghost use mathlib.Core.Path.{_≡_};
+ghost use Prim.Native.Nat.{_≤_};
+ghost use lib.ListN.{length};
+ghost use Rattle.rules.specs.Tokens.{lexed};
+ghost use Rattle.rules.proofs.Walk.{verdict};
+ghost use Rattle.lex_source.specs.Lexed.{meantLexed, unlessHigh};
+use text::Class;
+use token::Next;
+
+// Acceptance, or a refusal with its number and place.
+pub enum Lexed {
+    Clean,
+    Fault {
+        number: u8,
+        start: usize,
+        end: usize,
+    },
+}
+
+// The answer, unless a byte above x7F stands at or after `at`.
+fn unless_high(src: &[u8], at: usize, answer: Lexed) -> Lexed
+    requires { ⌜ at ≤ length (now src) ⌝ }
+    ensures { λ r. ⌜ meantLexed r ≡ unlessHigh (now (src .entry)) at (meantLexed answer) ⌝ }
+{
+    let high = text::run_end(src, at, Class::Ascii);
+    if high < src.len() {
+        return Lexed::Fault {
+            number: 12,
+            start: high,
+            end: high + 1,
+        };
+    }
+    answer
+}
+
+// One walk over the tokens. The bytes of each are looked at for one above x7F before the next is read; after a refusal those that are left are.
+pub fn first_refusal(src: &[u8]) -> Lexed
+    ensures { λ r. ⌜ meantLexed r ≡ verdict (lexed (now (src .entry))) ⌝ }
+{
+    if 262144 < src.len() {
+        return Lexed::Fault {
+            number: 11,
+            start: 0,
+            end: src.len(),
+        };
+    }
+    let mut at: usize = 0;
+    loop {
+        let next = lex::next_token(src, at);
+        match next {
+            Next::Took {
+                token: _,
+                start: _,
+                end,
+            } => {
+                let high = text::run_end(&src[0..end], at, Class::Ascii);
+                if high < end {
+                    return Lexed::Fault {
+                        number: 12,
+                        start: high,
+                        end: high + 1,
+                    };
+                }
+                at = end;
+            }
+            Next::End(_) => {
+                return unless_high(src, at, Lexed::Clean);
+            }
+            Next::Refused { number, start, end } => {
+                return unless_high(src, at, Lexed::Fault { number, start, end });
+            }
+        }
+    }
+}

@@ -1,0 +1,5 @@
+-- What the contracts of the object's crates cite beside the rules. Assumes nothing.
+pub mod Meaning
+pub mod Decides
+pub mod Slots
+pub mod Lent

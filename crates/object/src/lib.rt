@@ -1,0 +1,132 @@
+// An object in six lent buffers: its counts, what 42 asks of the buffers, and the rows of its tables read.
+ghost use mathlib.Core.Path.{_≡_};
+ghost use mathlib.Core.List.{map};
+ghost use Prim.Native.Nat.{_+_, _*_, _≤_};
+ghost use lib.ListN.{length};
+ghost use Rattle.rules.specs.Tokens.{upper};
+ghost use Rattle.rules.specs.Buffers.{six, short, least, lentWords, nameRow, labRow};
+ghost use Rattle.text.specs.Names.{ordered};
+ghost use Rattle.object.specs.Meaning.{lab};
+ghost use Rattle.object.specs.Slots.{upperName, Rising, Slotted};
+use text::Order;
+
+// Counts of blocks, words, labels and relocations. What stands in the six lent buffers up to these counts is the object.
+pub struct Counts {
+    pub blocks: usize,
+    pub words: usize,
+    pub labels: usize,
+    pub relocations: usize,
+}
+
+// What a label row says.
+pub enum Label {
+    Defined(u32),
+    External,
+}
+
+// Where a name stands among label rows, or the row where it belongs.
+pub enum Slot {
+    Taken(usize),
+    Free(usize),
+}
+
+// 42: a table or the name buffer is shorter than full capacities need.
+pub fn is_short(
+    blocks: &[u16],
+    words: &[u16],
+    marks: &[u8],
+    labels: &[u32],
+    relocations: &[u32],
+    names: &[u8],
+) -> bool
+    ensures { λ r. ⌜ r ≡ short (six (now (blocks .entry)) (now (words .entry)) (now (marks .entry)) (now (labels .entry)) (now (relocations .entry)) (now (names .entry))) ⌝ }
+{
+    (blocks.len() < 128)
+        | (labels.len() < 4096)
+        | (relocations.len() < 2048)
+        | (names.len() < 65536)
+}
+
+fn lesser(m: usize, n: usize) -> usize
+    ensures { λ r. ⌜ r ≡ least m n ⌝ }
+{
+    if m < n {
+        return m;
+    }
+    n
+}
+
+// The lent words: the least of the word buffer, its set marks and 65,024.
+pub fn lent_words(words: &[u16], marks: &[u8]) -> usize
+    ensures { λ r. ⌜ r ≡ lentWords (now (words .entry)) (now (marks .entry)) ⌝ }
+{
+    lesser(lesser(words.len(), marks.len()), 65024)
+}
+
+fn wide(x: u32) -> usize
+    ensures { λ r. ⌜ r ≡ x ⌝ }
+{
+    x as usize
+}
+
+// The name of label row k, as a part of the lent name bytes; empty where the row or its name is not there.
+pub fn label_name<'a>(labels: &[u32], names: &'a [u8], k: usize) -> &'a [u8]
+    ensures { λ r. ⌜ now r ≡ nameRow (now (labels .entry)) (now (names .entry)) k ⌝ }
+{
+    if labels.len() / 4 <= k {
+        return &names[0..0];
+    }
+    let i = k * 4;
+    let start = wide(labels[i + 2]);
+    let size = wide(labels[i + 3]);
+    if names.len() <= start {
+        return &names[0..0];
+    }
+    if names.len() - start < size {
+        return &names[start..];
+    }
+    &names[start..start + size]
+}
+
+// What label row k says.
+pub fn label_at(labels: &[u32], k: usize) -> Label
+    requires { ⌜ k * 4 + 4 ≤ length (now labels) ⌝ }
+    ensures { λ r. ⌜ lab r ≡ labRow (now (labels .entry)) k ⌝ }
+{
+    let i = k * 4;
+    if labels[i + 1] == 0 {
+        return Label::Defined(labels[i]);
+    }
+    Label::External
+}
+
+// The order of the name of row k and a name, both in upper case.
+pub fn compare_row(labels: &[u32], names: &[u8], k: usize, name: &[u8]) -> Order
+    ensures { λ r. ⌜ r ≡ ordered (upperName (now (labels .entry)) (now (names .entry)) k) (map upper (now (name .entry))) ⌝ }
+{
+    text::compare_names(label_name(labels, names, k), name)
+}
+
+// The row of a name among n rows that rise by name in upper case, by halving.
+pub fn slot_of(labels: &[u32], names: &[u8], n: usize, name: &[u8]) -> Slot
+    requires { ⌜ Rising (now labels) (now names) n ⌝ }
+    ensures { λ r. ⌜ Slotted (now (labels .entry)) (now (names .entry)) n (map upper (now (name .entry))) r ⌝ }
+{
+    let mut lo = 0;
+    let mut hi = n;
+    while lo < hi {
+        let mid = lo + (hi - lo) / 2;
+        match compare_row(labels, names, mid, name) {
+            Order::Less => {
+                lo = mid + 1;
+            }
+            Order::Greater => {
+                hi = mid;
+            }
+            Order::Same => {
+                return Slot::Taken(mid);
+            }
+        }
+    }
+    Slot::Free(lo)
+}

@@ -1,0 +1,5 @@
+pub mod Spots
+pub mod Seeking
+pub mod Blocks
+pub mod Words
+pub mod Once

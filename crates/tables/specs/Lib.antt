@@ -1,0 +1,2 @@
+-- What the contracts of `tables` cite. Assumes nothing.
+pub mod Opened

@@ -1,0 +1,10 @@
+-- `offset11_of` meets its contract. Assumes nothing.
+use mathlib.Core.Path.{refl, _∙_}
+use borrow.Author.Needs.{needs}
+use Rattle.rules.specs.Words.{extend}
+use Rattle.words.proofs.disassembly.offset11_of.Statement.{statement}
+use Rattle.words.proofs.disassembly.offset11_of.Tie as tie
+
+pub offset11-of-spec : {M : Type 1} → statement M
+unfolding extend
+offset11-of-spec = tie.close (tie.spec (λ c κs. search needs) (λ c. c .sign-extend .ensures))
