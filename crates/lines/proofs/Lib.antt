@@ -1,0 +1,2 @@
+-- Laws that the proofs of `lines` cite. Assumes nothing.
+pub mod Following

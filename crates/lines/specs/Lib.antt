@@ -1,0 +1,2 @@
+-- What the contracts of `lines` cite beside the rules. Assumes nothing.
+pub mod Lines

@@ -1,0 +1,4 @@
+-- Laws that the proofs of `operands` cite. Assumes nothing.
+pub mod Reading
+pub mod Answers
+pub mod Places

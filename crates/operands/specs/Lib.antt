@@ -1,0 +1,2 @@
+-- What the contracts of `operands` cite beside the rules. Assumes nothing.
+pub mod Coded

@@ -1,0 +1,95 @@
+-- Statements one after another, as the loop over them goes. Assumes nothing.
+use Prim.Native.Nat.{ℕ, zero, suc, _+_, _-_, _≤_, _<_}
+use mathlib.Core.Path.{_≡_, refl, sym, _∙_, ap}
+use mathlib.Core.List.{List, [], _∷_}
+use mathlib.Core.Option.{Option, none, some}
+use native.Mathlib.Omega.{arith}
+use lib.ListN.{length}
+use Rattle.rules.specs.Base.{Outcome, ok, refused, Refusal, _>>=_}
+use Rattle.rules.specs.Statements.{Stmt, Read, nextStatement, statementsAt, statements}
+use Rattle.rules.proofs.Following.{Goes, statement-goes, statements-on, statements-none, statements-refused}
+use Rattle.parse.specs.declared.Statement.{Statement}
+use Rattle.parse.specs.declared.NextStatement.{NextStatement}
+use Rattle.parse.specs.declared.NextStatement.the-variants.{End, Refused}
+use Rattle.parse.specs.declared.NextStatement.the-variants as next
+use Rattle.parse.specs.declared.Statements.{Statements}
+use Rattle.parse.specs.declared.Statements.the-variants.{Accepted}
+use Rattle.parse.specs.declared.Statements.the-variants as all
+use Rattle.parse.specs.Coded.{codedRead, codedStatement, codedStatements}
+
+-- what the code's answer says of the rules'
+pub record WasRead (o : Outcome (Option Read)) (st : Statement) : Type 0 where
+  pub read : Read
+  pub is : o ≡ ok (some read)
+  pub coded : codedRead read ≡ st
+
+pub was-read : (o : Outcome (Option Read)) (st : Statement) → codedStatement o ≡ next.Read st → WasRead o st
+unfolding codedStatement
+was-read (ok none) st e = let z : _≡_ {A = ℕ} 0 1 = cc in absurd (omega arith)
+was-read (ok (some x)) st e = record { read = x; is = refl; coded = cc }
+was-read (refused r) st e = let z : _≡_ {A = ℕ} 0 1 = cc in absurd (omega arith)
+
+was-end : (o : Outcome (Option Read)) → codedStatement o ≡ End → o ≡ ok none
+unfolding codedStatement
+was-end (ok none) e = refl
+was-end (ok (some x)) e = let z : _≡_ {A = ℕ} 0 1 = cc in absurd (omega arith)
+was-end (refused r) e = let z : _≡_ {A = ℕ} 0 1 = cc in absurd (omega arith)
+
+record WasRefused (o : Outcome (Option Read)) (n a e : ℕ) : Type 0 where
+  pub refusal : Refusal
+  pub is : o ≡ refused refusal
+  pub coded : all.Refused (refusal .number) (refusal .first .start) (refusal .first .stop) ≡ all.Refused n a e
+
+was-refused : (o : Outcome (Option Read)) (n a e : ℕ) → codedStatement o ≡ Refused n a e → WasRefused o n a e
+unfolding codedStatement
+was-refused (ok none) n a e h = let z : _≡_ {A = ℕ} 0 1 = cc in absurd (omega arith)
+was-refused (ok (some x)) n a e h = let z : _≡_ {A = ℕ} 0 1 = cc in absurd (omega arith)
+was-refused (refused r) n a e h =
+    let x : r .number ≡ n = cc in
+    let y : r .first .start ≡ a = cc in
+    let z : r .first .stop ≡ e = cc in
+    record { refusal = r; is = refl; coded = rw (x, y, z) }
+
+-- THE LOOP: what is refused from here on is what is refused of the whole
+pub record Rest (s : List ℕ) (at : ℕ) : Type 0 where
+  pub same : codedStatements (statementsAt s at) ≡ codedStatements (statements s)
+
+pub rest-start : (s : List ℕ) → Rest s 0
+unfolding statements
+rest-start s = record { same = refl }
+
+module _ (s : List ℕ) (at : ℕ) (x : NextStatement) (h : x ≡ codedStatement (nextStatement s at)) where
+  went : (st : Statement) → x ≡ next.Read st → WasRead (nextStatement s at) st
+  went st e = was-read (nextStatement s at) st (sym h ∙ e)
+
+  goes : (st : Statement) → x ≡ next.Read st → (at < st .next) × (st .next ≤ length s)
+  unfolding codedRead
+  goes st e =
+      let w = went st e in
+      let g = statement-goes s at (w .read) (w .is) in
+      let n : w .read .next ≡ st .next = ap (λ (y : Statement). y .next) (w .coded) in
+      (omega (arith, g .on, n), omega (arith, g .in′, n))
+
+  pub rest-less : (st : Statement) → x ≡ next.Read st → length s - st .next < length s - at
+  rest-less st e = let g = goes st e in omega (arith, g .0, g .1)
+
+  pub rest-next : (st : Statement) → Rest s at → x ≡ next.Read st → Rest s (st .next)
+  unfolding codedStatements codedRead
+  rest-next st r e =
+      let w = went st e in
+      let n : w .read .next ≡ st .next = ap (λ (y : Statement). y .next) (w .coded) in
+      record { same = kept (statementsAt s (st .next)) (w .read .stmt) ∙ (ap codedStatements (sym (rw n at (statements-on s at (w .read) (w .is)))) ∙ r .same) }
+    where
+      kept : (o : Outcome (List Stmt)) (t : Stmt) → codedStatements o ≡ codedStatements (o >>= λ ss. ok (t ∷ ss))
+      kept (ok ss) t = refl
+      kept (refused q) t = refl
+
+  pub rest-none : Rest s at → x ≡ End → Accepted ≡ codedStatements (statements s)
+  unfolding codedStatements
+  rest-none r e = sym (ap codedStatements (statements-none s at (was-end (nextStatement s at) (sym h ∙ e)))) ∙ r .same
+
+  pub rest-refused : (n a e : ℕ) → Rest s at → x ≡ Refused n a e → all.Refused n a e ≡ codedStatements (statements s)
+  unfolding codedStatements
+  rest-refused n a e r q =
+      let w = was-refused (nextStatement s at) n a e (sym h ∙ q) in
+      sym (w .coded) ∙ (sym (ap codedStatements (statements-refused s at (w .refusal) (w .is))) ∙ r .same)

@@ -1,0 +1,4 @@
+-- Laws that the proofs of `parse` cite. Assumes nothing.
+pub mod Reading
+pub mod Heads
+pub mod All

@@ -1,0 +1,113 @@
+-- The rules' statements as the code tells them. Assumes nothing.
+use Prim.Native.Nat.{ℕ}
+use mathlib.Core.Bool.{Bool, true, false}
+use mathlib.Core.List.{List, []}
+use mathlib.Core.Option.{Option, none, some}
+use lib.Dec.{eqb}
+use Rattle.rules.specs.Base.{if_then_else_, Outcome, ok, refused}
+use Rattle.rules.specs.Words.{instr, orig, fill, blkw, stringz, end, external, directives, find}
+use Rattle.rules.specs.Words as words
+use Rattle.rules.specs.Tokens.{Token}
+use Rattle.rules.specs.Statements.{Name, Stmt, Read, need, ends, tokenIs, lineEnd, rowRead}
+use Rattle.lexeme.specs.declared.Lexeme.{Lexeme}
+use Rattle.operands.specs.declared.Given.{Given}
+use Rattle.operands.specs.declared.Step.{Step}
+use Rattle.operands.specs.declared.Step.the-variants as step
+use Rattle.statement_rows.specs.declared.Op.{Op}
+use Rattle.statement_rows.specs.declared.Op.the-variants.{Instr, Orig, Fill, Blkw, Stringz, External}
+use Rattle.statement_rows.specs.declared.Op.the-variants as op
+use Rattle.statement_rows.specs.declared.Row.{Row}
+use Rattle.statement_rows.specs.Rows.{fieldsBy}
+use Rattle.lines.specs.Lines.{reachOf, labelStart, labelEnd, lineStep}
+use Rattle.parse.specs.declared.Statement.{Statement}
+use Rattle.parse.specs.declared.NextStatement.{NextStatement}
+use Rattle.parse.specs.declared.NextStatement.the-variants.{End, Refused}
+use Rattle.parse.specs.declared.NextStatement.the-variants as next
+use Rattle.parse.specs.declared.Statements.{Statements}
+use Rattle.parse.specs.declared.Statements.the-variants.{Accepted}
+use Rattle.parse.specs.declared.Statements.the-variants as all
+
+-- WHAT THE RULES ANSWER
+
+abbrev pub codedOp : words.Op → Op
+codedOp instr = Instr
+codedOp orig = Orig
+codedOp fill = Fill
+codedOp blkw = Blkw
+codedOp stringz = Stringz
+codedOp end = op.End
+codedOp external = External
+
+-- a statement: its label operand and its string by their places, its labels left out
+unfoldable pub codedRead : Read → Statement
+codedRead r = record {
+  op = codedOp (r .stmt .op);
+  bits = r .stmt .bits;
+  reach = reachOf (r .stmt .target);
+  «label_start» = labelStart (r .stmt .target);
+  «label_end» = labelEnd (r .stmt .target);
+  «text_start» = r .stmt .quote .start;
+  «text_end» = r .stmt .quote .stop;
+  start = r .stmt .place .start;
+  end = r .stmt .place .stop;
+  next = r .next;
+}
+
+unfoldable pub codedStatement : Outcome (Option Read) → NextStatement
+codedStatement (ok none) = End
+codedStatement (ok (some r)) = next.Read (codedRead r)
+codedStatement (refused r) = Refused (r .number) (r .first .start) (r .first .stop)
+
+-- all statements of a source: accepted, or the first refusal
+unfoldable pub codedStatements : Outcome (List Stmt) → Statements
+codedStatements (ok ss) = Accepted
+codedStatements (refused r) = all.Refused (r .number) (r .first .start) (r .first .stop)
+
+-- STEPS ON THE WAY
+
+-- a token that cannot stand where it is
+unfoldable pub unfitAt : Lexeme → NextStatement
+unfitAt t = if eqb (t .sort) 11 then Refused (t .value) (t .start) (t .end) else Refused 13 (t .start) (t .end)
+
+-- a statement of what is given
+abbrev pub made : Op → (start : ℕ) → Given → (next : ℕ) → Statement
+made o a g n = record {
+  op = o;
+  bits = g .bits;
+  reach = g .reach;
+  «label_start» = g .«label_start»;
+  «label_end» = g .«label_end»;
+  «text_start» = g .«text_start»;
+  «text_end» = g .«text_end»;
+  start = a;
+  end = g .stop;
+  next = n;
+}
+
+-- then newline or end
+unfoldable pub ended : Op → (start : ℕ) → Given → Outcome ℕ → NextStatement
+ended o a g (ok n) = next.Read (made o a g n)
+ended o a g (refused r) = Refused (r .number) (r .first .start) (r .first .stop)
+
+unfoldable pub finished : List ℕ → Op → (start : ℕ) → Given → NextStatement
+finished s o a g = ended o a g (lineEnd s (g .stop))
+
+unfoldable pub after : List ℕ → Op → (start : ℕ) → Step → NextStatement
+after s o a (step.Took g) = finished s o a g
+after s o a (step.Refused n b e) = Refused n b e
+
+-- the statement of a row whose first token stands from a up to e
+unfoldable pub rowStep : List ℕ → Op → List words.Field → (other word a e : ℕ) → NextStatement
+rowStep s o fs other w a e = after s o a (lineStep s fs other w e)
+
+-- a row without its operands
+abbrev pub bareRow : Row → Row
+bareRow r = record { op = r .op; base = r .base; count = 0; first = r .first; second = r .second; third = r .third }
+
+-- NOP
+unfoldable pub nopStep : List ℕ → Row → (a e : ℕ) → NextStatement
+nopStep s r a e = rowStep s (r .op) (if tokenIs ends s e then [] else fieldsBy (r .count) (r .first) (r .second) (r .third)) 13 (r .base) a e
+
+-- the statement of a directive of this name
+unfoldable pub dotRead : List ℕ → List Name → (name : List ℕ) → Token → Outcome (Option Read)
+dotRead s ls w t = need (find w directives) 13 (t .place) (λ r. rowRead s ls r t (r .fields) 14)

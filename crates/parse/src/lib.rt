@@ -1,0 +1,237 @@
+// One statement at a time, from the source.
+use lexeme::Lexeme;
+use lexeme::next_lexeme;
+use operands::Given;
+use operands::Step;
+use statement_rows::Op;
+use statement_rows::Row;
+ghost use mathlib.Core.Path.{_≡_};
+ghost use mathlib.Core.List.{List, map};
+ghost use Prim.Native.Nat.{_+_, _<_};
+ghost use lib.ListN.{getD};
+ghost use Rattle.rules.specs.Base.{span};
+ghost use Rattle.rules.specs.Tokens.{Kind, tokenIn, upper};
+ghost use Rattle.rules.specs.Words.{instructions};
+ghost use Rattle.rules.specs.Statements.{Name, instrRead, nextStatement, statements};
+ghost use Rattle.token.specs.Meant.{part};
+ghost use Rattle.lexeme.specs.Sorts.{noRow};
+ghost use Rattle.statement_rows.specs.Rows.{fieldsBy};
+ghost use Rattle.parse.specs.Coded.{made, finished, rowStep, nopStep, bareRow, unfitAt, dotRead, codedStatement, codedStatements};
+
+// A statement: what it does; its word or number as far as it is known; the number of values of its label operand's field (0: no label operand) and the
+// label's place; its string's place; its span, from the instruction or directive to the last operand; and where the next statement begins.
+// Its labels are not held: they are walked again from where the statement was looked for.
+pub struct Statement {
+    pub op: Op,
+    pub bits: u32,
+    pub reach: u32,
+    pub label_start: usize,
+    pub label_end: usize,
+    pub text_start: usize,
+    pub text_end: usize,
+    pub start: usize,
+    pub end: usize,
+    pub next: usize,
+}
+
+pub enum NextStatement {
+    Read(Statement),
+    End,
+    Refused {
+        number: u16,
+        start: usize,
+        end: usize,
+    },
+}
+
+// What reading all statements of a source answers.
+pub enum Statements {
+    Accepted,
+    Refused {
+        number: u16,
+        start: usize,
+        end: usize,
+    },
+}
+
+// A refusal with this number at the token.
+fn refused(number: u16, t: Lexeme) -> NextStatement
+    ensures { λ r. ⌜ r ≡ NextStatement.Refused number (t .start) (t .end) ⌝ }
+{
+    NextStatement::Refused {
+        number,
+        start: t.start,
+        end: t.end,
+    }
+}
+
+// A token that cannot stand where it is: its own refusal, or 13.
+fn unfit(t: Lexeme) -> NextStatement
+    ensures { λ r. ⌜ r ≡ unfitAt t ⌝ }
+{
+    if t.sort == 11 {
+        return refused(t.value, t);
+    }
+    refused(13, t)
+}
+
+// A statement of what is given, from its first token's start.
+fn read_of(op: Op, start: usize, g: Given, next: usize) -> NextStatement
+    ensures { λ r. ⌜ r ≡ NextStatement.Read (made op start g next) ⌝ }
+{
+    NextStatement::Read(Statement {
+        op,
+        bits: g.bits,
+        reach: g.reach,
+        label_start: g.label_start,
+        label_end: g.label_end,
+        text_start: g.text_start,
+        text_end: g.text_end,
+        start,
+        end: g.stop,
+        next,
+    })
+}
+
+// After the operands a newline or the end of the source.
+fn line_end(src: &[u8], op: Op, start: usize, g: Given) -> NextStatement
+    ensures { λ r. ⌜ r ≡ finished (now (src .entry)) op start g ⌝ }
+{
+    let t = next_lexeme(src, g.stop);
+    if t.sort == 9 {
+        return read_of(op, start, g, t.end);
+    }
+    if t.sort == 10 {
+        return read_of(op, start, g, t.end);
+    }
+    unfit(t)
+}
+
+// The statement of a row whose first token this is.
+fn row_read(src: &[u8], row: Row, t: Lexeme, other: u16) -> NextStatement
+    ensures { λ r. ⌜ r ≡ rowStep (now (src .entry)) (row .op) (fieldsBy (row .count) (row .first) (row .second) (row .third)) other (row .base) (t .start) (t .end) ⌝ }
+{
+    let op = row.op;
+    let step = lines::operands_from(src, t.end, row, other);
+    match step {
+        Step::Took(g) => line_end(src, op, t.start, g),
+        Step::Refused { number, start, end } => NextStatement::Refused { number, start, end },
+    }
+}
+
+// The row without its operands.
+fn without_operands(row: Row) -> Row
+    ensures { λ r. ⌜ r ≡ bareRow row ⌝ }
+{
+    let op = row.op;
+    let first = row.first;
+    let second = row.second;
+    let third = row.third;
+    Row {
+        op,
+        base: row.base,
+        count: 0,
+        first,
+        second,
+        third,
+    }
+}
+
+// NOP's operand may be left out; a wrong token there is 13.
+fn nop_read(src: &[u8], row: Row, t: Lexeme) -> NextStatement
+    ensures { λ r. ⌜ r ≡ nopStep (now (src .entry)) row (t .start) (t .end) ⌝ }
+{
+    let after = next_lexeme(src, t.end);
+    if after.sort == 9 {
+        return row_read(src, without_operands(row), t, 13);
+    }
+    if after.sort == 10 {
+        return row_read(src, without_operands(row), t, 13);
+    }
+    row_read(src, row, t, 13)
+}
+
+// The statement of an instruction.
+fn instruction(src: &[u8], t: Lexeme) -> NextStatement
+    requires { ⌜ t .value < 32 ⌝ }
+    ensures { λ r. ⌜ ((ls : List Name) (k : Kind) → r ≡ codedStatement (instrRead (now (src .entry)) ls (getD instructions (t .value) noRow) (tokenIn k (span (t .start) (t .end))))) ⌝ }
+{
+    let row = statement_rows::row_at(t.value as usize);
+    if row.base == 0 {
+        return nop_read(src, row, t);
+    }
+    row_read(src, row, t, 14)
+}
+
+// A directive's name: the part of the source after the dot.
+fn name_after(src: &[u8], dot: usize, end: usize) -> &[u8]
+    ensures { λ r. ⌜ now r ≡ part (now (src .entry)) (dot + 1) end ⌝ }
+{
+    if src.len() <= dot {
+        return &src[0..0];
+    }
+    let start = dot + 1;
+    if src.len() < end {
+        return &src[start..];
+    }
+    if end < start {
+        return &src[0..0];
+    }
+    &src[start..end]
+}
+
+// The statement of a directive; an unknown one is 13.
+fn directive(src: &[u8], t: Lexeme) -> NextStatement
+    ensures { λ r. ⌜ ((ls : List Name) (k : Kind) → r ≡ codedStatement (dotRead (now (src .entry)) ls (map upper (part (now (src .entry)) (t .start + 1) (t .end))) (tokenIn k (span (t .start) (t .end))))) ⌝ }
+{
+    let code = statement_rows::directive_code(name_after(src, t.start, t.end));
+    if code < 38 {
+        return row_read(src, statement_rows::row_at(code), t, 14);
+    }
+    refused(13, t)
+}
+
+// The statement that begins at a place or after it.
+pub fn next_statement(src: &[u8], at: usize) -> NextStatement
+    ensures { λ r. ⌜ r ≡ codedStatement (nextStatement (now (src .entry)) at) ⌝ }
+{
+    let walk = labels::walk_labels(src, at);
+    let t = next_lexeme(src, walk.head);
+    if t.sort == 5 {
+        return instruction(src, t);
+    }
+    if t.sort == 6 {
+        return directive(src, t);
+    }
+    if t.sort == 3 {
+        return refused(16, t);
+    }
+    if t.sort == 10 {
+        if walk.labelled {
+            return refused(13, t);
+        }
+        return NextStatement::End;
+    }
+    unfit(t)
+}
+
+// The first refusal of a source's statements, where there is one.
+pub fn first_refusal(src: &[u8]) -> Statements
+    ensures { λ r. ⌜ r ≡ codedStatements (statements (now (src .entry))) ⌝ }
+{
+    let mut at = 0;
+    loop {
+        let statement = next_statement(src, at);
+        match statement {
+            NextStatement::Read(s) => {
+                at = s.next;
+            }
+            NextStatement::End => {
+                return Statements::Accepted;
+            }
+            NextStatement::Refused { number, start, end } => {
+                return Statements::Refused { number, start, end };
+            }
+        }
+    }
+}

@@ -1,0 +1,3 @@
+-- Laws of the table of rows. Assumes nothing.
+pub mod Table
+pub mod Rule
