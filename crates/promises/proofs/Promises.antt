@@ -2,14 +2,15 @@
 -- Assumes nothing.
 use Prim.Native.Nat.{ℕ, _^_, _≤_, _<_}
 use mathlib.Core.Bool.{Bool, true, false}
-use mathlib.Core.List.{List, _∷_}
+use mathlib.Core.List.{List, _∷_, map}
 use mathlib.Core.Option.{some}
 use mathlib.Core.Path.{_≡_}
 use lib.ListN.{length, getD}
-use Rattle.rules.specs.Tokens.{Match, tokenAt}
+use Rattle.rules.specs.Tokens.{Match, tokenAt, tokenIn, upper, nextToken, lexed}
+use Rattle.rules.specs.Tokens as Kinds
 use Rattle.rules.specs.Patterns.{patterns, LongestMatch}
 use Rattle.rules.specs.Examples.{EveryRow}
-use Rattle.rules.specs.Base.{ok, nowhere}
+use Rattle.rules.specs.Base.{ok, span, nowhere}
 use Rattle.rules.specs.Statements.{fit}
 use Rattle.rules.specs.Words as R
 use Rattle.rules.specs.Words.{Range, signed, offset, fits, reach, field, extend, Instr, word, disassemble, line, Shown}
@@ -17,6 +18,22 @@ use Rattle.rules.specs.Objects.{Object, Counts, countsOf, flat, lookupLabel, Go
 use Rattle.rules.specs.Buffers.{Buffers, short, lentWords, view, layout, Valid}
 use Rattle.rules.specs.Examples as Examples
 use Rattle.rules.proofs.Longest as Longest
+use Rattle.rules.proofs.Walk.{verdict}
+use Rattle.reserved.specs.declared.Ident.{Ident}
+use Rattle.token.specs.Coded.{coded}
+use Rattle.token.specs.Meant as Meant
+use Rattle.token.specs.declared.Token.the-variants as tok
+use Rattle.token.specs.declared.Next.{Next}
+use Rattle.token.specs.declared.Next.the-variants.{Took}
+use Rattle.token.proofs.MeantCoded as Tokens
+use Rattle.lex.specs.Label.{labelText}
+use Rattle.lex.proofs.LabelLaws as Labels
+use Rattle.lex_source.specs.Lexed.{meantLexed}
+use Rattle.lex_source.specs.declared.Lexed.{Lexed}
+use Rattle.lex_source.proofs.OneAnswer as Lexer
+use Rattle.list.specs.Call as Call
+use Rattle.list.specs.Call.{Called}
+use Rattle.list.specs.declared.Listed.{Listed}
 use Rattle.rules.proofs.Fields as Fields
 use Rattle.rules.proofs.Fields.{Width}
 use Rattle.rules.proofs.Disassembly as Disassembly
@@ -51,6 +68,25 @@ longest-match = Longest.longest-match
 
 pub one-longest-match : (s : List ℕ) {m n : Match} → LongestMatch s m → LongestMatch s n → m ≡ n
 one-longest-match s h k = Longest.one-longest patterns s h k
+
+-- THE CODE OF TOKENS, crates `lex` and `lex_source`. What `next_token` tells means the rule's next token, of any bytes and from any place;
+-- a word's text, handed out as a part of the source, is in upper case the rule's word.
+pub told-means-the-token : (s : List ℕ) (at : ℕ) → Meant.meant s (coded (nextToken s at)) ≡ nextToken s at
+told-means-the-token = Tokens.meant-coded
+
+pub label-text-is-the-word :
+    (s : List ℕ) (at : ℕ) (i : Ident) (a e : ℕ) → Meant.meant s (Took (tok.Ident i) a e) ≡ nextToken s at → nextToken s at ≡ ok (tokenIn (Kinds.word (map upper (labelText s a e))) (span a e))
+label-text-is-the-word = Labels.label-word
+
+-- Two answers that a contract allows are equal: `next_token`; `label_text`; `first_refusal` of the whole source (11, 12, then 1 to 10).
+pub next-token-one-answer : (s : List ℕ) (at : ℕ) (r t : Next) → r ≡ coded (nextToken s at) → t ≡ coded (nextToken s at) → r ≡ t
+next-token-one-answer s at r t = Lexer.next-token-one s at
+
+pub label-text-one-answer : (s : List ℕ) (start end : ℕ) (r t : List ℕ) → r ≡ labelText s start end → t ≡ labelText s start end → r ≡ t
+label-text-one-answer s start end r t = Lexer.label-text-one s start end
+
+pub first-refusal-one-answer : (s : List ℕ) (r t : Lexed) → meantLexed r ≡ verdict (lexed s) → meantLexed t ≡ verdict (lexed s) → r ≡ t
+first-refusal-one-answer = Lexer.first-refusal-one
 
 -- MARKED EXAMPLES. P1 to P10: each row of the table gives its answer.
 pub marked-examples : EveryRow
@@ -103,6 +139,13 @@ lookup-label-one-answer = Lookup.said-once
 
 pub rev-lookup-label-one-answer : (c : Counts) (b : Buffers) (a : ℕ) (r s : Found) → Reversed c b a r → Reversed c b a s → r ≡ s
 rev-lookup-label-one-answer = Lookup.found-once
+
+-- THE CODE OF THE LISTING, crate `list`. Two answers that the contract of `list` allows are equal, and so are the buffers afterwards.
+pub list-one-answer : (c : Counts) (b : Buffers) (len : ℕ) (r s : Listed) (x y : List ℕ) → Called c b len r x → Called c b len s y → r ≡ s
+list-one-answer c b len r s x y = Call.one-answer
+
+pub list-one-buffer : (c : Counts) (b : Buffers) (len : ℕ) (r s : Listed) (x y : List ℕ) → Called c b len r x → Called c b len s y → x ≡ y
+list-one-buffer c b len r s x y = Call.one-buffer
 
 -- THE CODE OF WORDS, crate `words`: an instruction's meaning is the rule's of the same name, and the contracts are the equations below.
 -- `encode`, then `try_disassemble_line`: the instruction, up to the names that share a word; and the other way round the word.
