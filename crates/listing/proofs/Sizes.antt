@@ -16,6 +16,7 @@ use Rattle.listing.specs.Fronts.{labelFront, relocFront}
 use Rattle.listing.specs.Sizes.{Sized, SizedAll}
 use Rattle.listing.proofs.Texts.{line-defined, line-outer}
 use Rattle.listing.proofs.Blocks.{line-reloc}
+use Rattle.rules.proofs.Bools.{and-right}
 
 front-size : (a : ℕ) → length (labelFront a) ≡ 11
 unfolding labelFront hex4
@@ -47,11 +48,6 @@ sized-reloc rs ls ns k j n i e s =
     let q : length (relocLine (relocRow rs ls ns k)) ≡ length (relocFront (getD rs (k * 2) 0)) + length (nameRow ls ns (getD rs (k * 2 + 1) 0)) + 1 =
     ap length (line-reloc rs ls ns k) ∙ line-size (relocFront (getD rs (k * 2) 0)) (nameRow ls ns (getD rs (k * 2 + 1) 0)) in
     record { size = omega (arith, q, p, reloc-size (getD rs (k * 2) 0)); small = omega (arith, p) }
-
--- a good name is short
-and-right : (a b : Bool) → (a && b) ≡ true → b ≡ true
-and-right true b e = e
-and-right false b e = let z : _≡_ {A = ℕ} 0 1 = cc in absurd (omega arith)
 
 pub good-short : (n : List ℕ) → goodName n ≡ true → length n ≤ 64
 unfolding goodName

@@ -11,7 +11,7 @@ ghost use Rattle.listing.specs.Low.{RelocsLow, RelocsNamed};
 ghost use Rattle.listing.specs.Sizes.{Sized, SizedAll};
 
 // A block's lines.
-pub fn put_block(out: &mut [u8], at: usize, start: u16, words: &[u16], marks: &[u8]) -> usize
+fn put_block(out: &mut [u8], at: usize, start: u16, words: &[u16], marks: &[u8]) -> usize
     requires { ⌜ start + length (now words) ≤ 65024 ⌝ }
     requires { ⌜ length (now words) ≡ length (now marks) ⌝ }
     requires { ⌜ at + length (blockText start (now words) (now marks)) ≤ length (now out) ⌝ }

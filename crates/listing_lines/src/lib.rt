@@ -10,7 +10,7 @@ ghost use Rattle.listing_lines.specs.Appended.{Appended};
 ghost use Rattle.listing_lines.specs.Lines.{cellLine, cellLines, headLine};
 
 // A hexadecimal digit.
-pub fn hex_digit(n: u16) -> u8
+fn hex_digit(n: u16) -> u8
     requires { ⌜ n < 16 ⌝ }
     ensures { λ r. ⌜ r ≡ hexDigit n ⌝ }
 {

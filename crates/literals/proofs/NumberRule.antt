@@ -19,15 +19,7 @@ use Rattle.text.proofs.RunLaws.{run-in, run-out, run-past}
 use Rattle.literals.specs.Numbers.{stopped, numberFrom, meantBy}
 use Rattle.literals.specs.declared.Reading.{Reading}
 use Rattle.literals.specs.declared.Reading.the-variants.{Good, Empty, Wrong, Over}
-
--- a digit of a base up to 16 is a word character
-and-left : (a b : Bool) → (a && b) ≡ true → a ≡ true
-and-left true b t = refl
-and-left false b t = t
-
-and-right : (a b : Bool) → (a && b) ≡ true → b ≡ true
-and-right true b t = t
-and-right false b t = let z : _≡_ {A = ℕ} 0 1 = cc in absurd (omega arith)
+use Rattle.rules.proofs.Bools.{and-left, and-right}
 
 low-letter : (c : ℕ) → within "A" "F" c ≡ true → letter c ≡ true
 unfolding letter

@@ -1,7 +1,7 @@
 -- A row of the table, byte by byte, and the rows one by one. Assumes nothing.
 use Prim.Native.Nat.{ℕ, zero, suc, _+_, _-_, _<_, _≤_}
 use mathlib.Core.Path.{_≡_, refl, sym, _∙_, ap}
-use mathlib.Core.Bool.{Bool, true, false, _&&_, false≢true}
+use mathlib.Core.Bool.{Bool, true, false, _&&_}
 use mathlib.Core.List.{List, [], _∷_, map}
 use native.Mathlib.Nat.{not-suc-le-zero, le-of-suc-le-suc}
 use native.Mathlib.Omega.{arith}
@@ -16,14 +16,7 @@ use Rattle.text.proofs.Rest.{from-step, from-end}
 use Rattle.reserved.specs.Table.{words, row, nameOf, findIn}
 use Rattle.reserved.specs.declared.Ident.{Ident}
 use Rattle.reserved.specs.declared.Ident.the-variants.{Reserved, Label}
-
-pub and-left : (a b : Bool) → (a && b) ≡ true → a ≡ true
-and-left true b t = refl
-and-left false b t = t
-
-pub and-right : (a b : Bool) → (a && b) ≡ true → b ≡ true
-and-right true b t = t
-and-right false b t = absurd (false≢true t)
+use Rattle.rules.proofs.Bools.{and-left, and-right}
 
 -- what a computed test says of each entry of a list
 pub maps-at : {A B : Type 0} (f g : A → B) (d : A) (xs : List A) → map f xs ≡ map g xs → (i : ℕ) → i < length xs → f (getD xs i d) ≡ g (getD xs i d)

@@ -16,7 +16,8 @@ use Rattle.reserved.specs.Table.{words, starts, row, firstRow, nameOf, c
 use Rattle.reserved.specs.Ident.{placeFrom, identOf}
 use Rattle.reserved.specs.declared.Ident.{Ident}
 use Rattle.reserved.specs.declared.Ident.the-variants.{Reserved, Label}
-use Rattle.reserved.proofs.Rows.{maps-at, and-left, and-right, length-map}
+use Rattle.reserved.proofs.Rows.{maps-at, length-map}
+use Rattle.rules.proofs.Bools.{and-left, and-right}
 
 same-is : (x y : List ℕ) → same x y ≡ true → x ≡ y
 same-is [] [] t = refl

@@ -13,6 +13,7 @@ use Rattle.rules.specs.Base.{if_then_else_}
 use Rattle.rules.specs.Tokens.{Num, plus, minus}
 use Rattle.rules.specs.Statements.{inRange, reduced}
 use Rattle.rules.specs.Words.{Range, signed, unsigned, num, offset, fits, field, extend, value, bits}
+use Rattle.rules.proofs.Bools.{and-left, and-right}
 
 -- a test with its answer
 pub by-test : {A : Type 0} (t : Bool) → (t ≡ true → A) → (t ≡ false → A) → A
@@ -26,14 +27,6 @@ or-true false b e = inr e
 or-right : (a b : Bool) → b ≡ true → (a || b) ≡ true
 or-right true b e = refl
 or-right false b e = e
-
-and-left : (a b : Bool) → (a && b) ≡ true → a ≡ true
-and-left true b e = refl
-and-left false b e = e
-
-and-right : (a b : Bool) → (a && b) ≡ true → b ≡ true
-and-right true b e = e
-and-right false b e = let z : _≡_ {A = ℕ} 0 1 = cc in absurd (omega arith)
 
 -- what fits a range: at most high, or at most low below zero
 pub fits-cases : (r : Range) (d : ℕ) → fits r d ≡ true → (d ≤ r .high) ⊎ ((65536 - r .low ≤ d) × (d < 65536))

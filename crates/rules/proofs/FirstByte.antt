@@ -22,6 +22,7 @@ use Rattle.rules.proofs.Starts.{rowsAt, hexDigit, hex-value, hex-wordy}
 use Rattle.rules.proofs.Heads.{drop-taken, begins-apart, begins-within, begins-same, while-same, while-longer, while-none, while-one, begins-count}
 use Rattle.rules.proofs.Sizes.{digit-wordy, letter-wordy}
 use Rattle.rules.proofs.While.{yes-cons}
+use Rattle.rules.proofs.Bools.{and-left, and-right}
 
 longest-fits : (r : Regex) (s : List ℕ) (k : ℕ) → longest r s ≡ some k → k ≤ length s
 longest-fits r s k e =
@@ -53,14 +54,6 @@ if-yes x y e = rw e
 pub if-no : {A : Type 0} {b : Bool} (x y : A) → b ≡ false → (if b then x else y) ≡ y
 unfolding if_then_else_
 if-no x y e = rw e
-
-pub and-left : (a b : Bool) → (a && b) ≡ true → a ≡ true
-and-left true b e = refl
-and-left false b e = e
-
-pub and-right : (a b : Bool) → (a && b) ≡ true → b ≡ true
-and-right true b e = e
-and-right false b e = let z : _≡_ {A = ℕ} 0 1 = cc in absurd (omega arith)
 
 -- what holds of the byte k holds of a byte that is k
 is-so : (k : ℕ) (q : ℕ → Bool) {b : Bool} → q k ≡ b → (x : ℕ) → eqb x k ≡ true → q x ≡ b

@@ -1,3 +1,4 @@
+pub mod Bools
 pub mod Run
 pub mod Bytes
 pub mod While

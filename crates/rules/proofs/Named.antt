@@ -14,7 +14,7 @@ use Rattle.rules.specs.Tokens.{Kind, number, register, mark, word, direc
 use Rattle.rules.specs.Words.{instructions, find, Row}
 use Rattle.rules.specs.Statements.{asWord, asLabel}
 use Rattle.rules.specs.Objects.{labelWord, labelToken, goodName}
-use Rattle.rules.proofs.FirstByte.{and-left, and-right}
+use Rattle.rules.proofs.Bools.{and-left, and-right}
 use Rattle.rules.proofs.Shown.{Shows, token-right}
 
 pub same-true : (a b : List ℕ) → same a b ≡ true → a ≡ b

@@ -9,7 +9,8 @@ use Rattle.rules.specs.Base.{if_then_else_, is, Outcome, ok, _>>=_, span
 use Rattle.rules.specs.Patterns.{tokenBy, tokensByFrom, tokensBy}
 use Rattle.rules.specs.Tokens.{Match, match, bad, begins, digit, letter, space, upper, Token, kept, tokenAt, tokensFrom, tokens}
 use Rattle.rules.proofs.FirstByte as F
-use Rattle.rules.proofs.FirstByte.{by-test, if-yes, if-no, and-left, and-right}
+use Rattle.rules.proofs.FirstByte.{by-test, if-yes, if-no}
+use Rattle.rules.proofs.Bools.{and-left, and-right}
 use Rattle.rules.proofs.Starts as S
 use Rattle.rules.proofs.Starts.{starts, inside, low-or-high, other, high-by, high-at}
 

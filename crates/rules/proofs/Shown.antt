@@ -10,6 +10,7 @@ use borrow.Author.Tests.{eqb-true}
 use lib.ListN.{length, drop, take}
 use Rattle.rules.specs.Base.{if_then_else_}
 use Rattle.rules.specs.Tokens.{Kind, number, register, mark, word, directive, text, Found, token, blank, bad, Match, match, Form, while, wordy, upper, value, digits, read, dec, decNeg, hex, hexNeg, reg, numberAfter, wrongAfter, wordAt, directiveAfter, afterHash, afterMinus, afterX, afterR, Quoted, open′, closed, quoted, line, afterQuote, tokenAt}
+use Rattle.rules.proofs.Bools.{either, either-if}
 
 -- the characters of a string; none of one that has no end
 unfoldable pub chars : Quoted → List ℕ
@@ -32,16 +33,6 @@ Shows l n (bad m) = Unit {0}
 
 abbrev Right : List ℕ → Match → Type 0
 Right l m = Shows l (m .size) (m .found)
-
-either : {A : Type 0} (P : A → Type 0) (b : Bool) {x y : A} → P x → P y → P (if b then x else y)
-unfolding if_then_else_
-either P true p q = p
-either P false p q = q
-
-either-if : {A : Type 0} (P : A → Type 0) (b : Bool) {x y : A} → (b ≡ true → P x) → P y → P (if b then x else y)
-unfolding if_then_else_
-either-if P true p q = p refl
-either-if P false p q = q
 
 -- the longest beginning is as many bytes of the list
 pub take-while : (p : ℕ → Bool) (l : List ℕ) → while p l ≡ take (length (while p l)) l

@@ -1,7 +1,7 @@
 #!/usr/bin/env python3
 """Writes data/vectors.bin: sources, and what lc3-ensemble 0.10.0's lexer says of each.
 
-usage: make_vectors.py ORACLE OUT, where `ORACLE tokens --lib FILE` prints the crate's tokens of a file, a line each, in the
+usage: token_vectors.py ORACLE OUT, where `ORACLE tokens --lib FILE` prints the crate's tokens of a file, a line each, in the
 numbers of document 01. README.md beside the data says what the bytes are.
 """
 import os
