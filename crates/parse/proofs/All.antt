@@ -7,6 +7,12 @@ use native.Mathlib.Omega.{arith}
 use lib.ListN.{length}
 use Rattle.rules.specs.Base.{Outcome, ok, refused, Refusal, _>>=_}
 use Rattle.rules.specs.Statements.{Stmt, Read, nextStatement, statementsAt, statements}
+use Rattle.rules.specs.Base.{refuse, span, nowhere}
+use Rattle.rules.specs.Tokens.{Token, lexed}
+use Rattle.rules.proofs.Walk.{verdict}
+use Rattle.lex_source.specs.declared.Lexed.{Lexed}
+use Rattle.lex_source.specs.declared.Lexed.the-variants.{Clean, Fault}
+use Rattle.lex_source.specs.Lexed.{meantLexed}
 use Rattle.rules.proofs.Following.{Goes, statement-goes, statements-on, statements-none, statements-refused}
 use Rattle.parse.specs.declared.Statement.{Statement}
 use Rattle.parse.specs.declared.NextStatement.{NextStatement}
@@ -15,7 +21,7 @@ use Rattle.parse.specs.declared.NextStatement.the-variants as next
 use Rattle.parse.specs.declared.Statements.{Statements}
 use Rattle.parse.specs.declared.Statements.the-variants.{Accepted}
 use Rattle.parse.specs.declared.Statements.the-variants as all
-use Rattle.parse.specs.Coded.{codedRead, codedStatement, codedStatements}
+use Rattle.parse.specs.Coded.{codedRead, codedStatement, codedStatements, sourceStatements}
 
 -- what the code's answer says of the rules'
 pub record WasRead (o : Outcome (Option Read)) (st : Statement) : Type 0 where
@@ -93,3 +99,23 @@ module _ (s : List ℕ) (at : ℕ) (x : NextStatement) (h : x ≡ codedStatement
   rest-refused n a e r q =
       let w = was-refused (nextStatement s at) n a e (sym h ∙ q) in
       sym (w .coded) ∙ (sym (ap codedStatements (statements-refused s at (w .refusal) (w .is))) ∙ r .same)
+
+-- THE LEXER'S REFUSALS FIRST
+module _ (s : List ℕ) (x : Lexed) (h : meantLexed x ≡ verdict (lexed s)) where
+  pub source-clean : (r : Statements) → x ≡ Clean → r ≡ codedStatements (statements s) → r ≡ codedStatements (sourceStatements s)
+  unfolding meantLexed verdict sourceStatements codedStatements
+  source-clean r e q = go (lexed s) (rw e at h)
+    where
+      go : (o : Outcome (List Token)) → ok tt ≡ verdict o → r ≡ codedStatements (o >>= λ ts. statements s)
+      go (ok ts) w = q
+      go (refused y) w = let z : _≡_ {A = ℕ} 0 1 = cc in absurd (omega arith)
+
+  pub source-fault : (n a e : ℕ) → x ≡ Fault n a e → all.Refused n a e ≡ codedStatements (sourceStatements s)
+  unfolding meantLexed verdict sourceStatements codedStatements
+  source-fault n a e q = go (lexed s) (rw q at h)
+    where
+      go : (o : Outcome (List Token)) → refuse n (span a e) ≡ verdict o → all.Refused n a e ≡ codedStatements (o >>= λ ts. statements s)
+      go (ok ts) w = let z : _≡_ {A = ℕ} 0 1 = cc in absurd (omega arith)
+      go (refused y) w =
+          let i : record { number = n; first = span a e; second = nowhere } ≡ y = cc in
+          rw (← i)

@@ -2,3 +2,5 @@
 pub mod Reading
 pub mod Heads
 pub mod All
+pub mod Reach
+pub mod Unique

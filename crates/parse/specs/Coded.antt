@@ -4,11 +4,11 @@ use mathlib.Core.Bool.{Bool, true, false}
 use mathlib.Core.List.{List, []}
 use mathlib.Core.Option.{Option, none, some}
 use lib.Dec.{eqb}
-use Rattle.rules.specs.Base.{if_then_else_, Outcome, ok, refused}
+use Rattle.rules.specs.Base.{if_then_else_, Outcome, ok, refused, _>>=_}
 use Rattle.rules.specs.Words.{instr, orig, fill, blkw, stringz, end, external, directives, find}
 use Rattle.rules.specs.Words as words
-use Rattle.rules.specs.Tokens.{Token}
-use Rattle.rules.specs.Statements.{Name, Stmt, Read, need, ends, tokenIs, lineEnd, rowRead}
+use Rattle.rules.specs.Tokens.{Token, lexed}
+use Rattle.rules.specs.Statements.{Name, Stmt, Read, need, ends, tokenIs, lineEnd, rowRead, statements}
 use Rattle.lexeme.specs.declared.Lexeme.{Lexeme}
 use Rattle.operands.specs.declared.Given.{Given}
 use Rattle.operands.specs.declared.Step.{Step}
@@ -62,6 +62,10 @@ codedStatement (refused r) = Refused (r .number) (r .first .start) (r .first .st
 unfoldable pub codedStatements : Outcome (List Stmt) → Statements
 codedStatements (ok ss) = Accepted
 codedStatements (refused r) = all.Refused (r .number) (r .first .start) (r .first .stop)
+
+-- lexical refusals come before those of statements, over the whole source
+unfoldable pub sourceStatements : List ℕ → Outcome (List Stmt)
+sourceStatements s = lexed s >>= λ ts. statements s
 
 -- STEPS ON THE WAY
 

@@ -1,4 +1,5 @@
 // One statement at a time, from the source.
+use lex_source::Lexed;
 use lexeme::Lexeme;
 use lexeme::next_lexeme;
 use operands::Given;
@@ -16,7 +17,7 @@ ghost use Rattle.rules.specs.Statements.{Name, instrRead, nextStatement, statem
 ghost use Rattle.token.specs.Meant.{part};
 ghost use Rattle.lexeme.specs.Sorts.{noRow};
 ghost use Rattle.statement_rows.specs.Rows.{fieldsBy};
-ghost use Rattle.parse.specs.Coded.{made, finished, rowStep, nopStep, bareRow, unfitAt, dotRead, codedStatement, codedStatements};
+ghost use Rattle.parse.specs.Coded.{made, finished, rowStep, nopStep, bareRow, unfitAt, dotRead, codedStatement, codedStatements, sourceStatements};
 
 // A statement: what it does; its word or number as far as it is known; the number of values of its label operand's field (0: no label operand) and the
 // label's place; its string's place; its span, from the instruction or directive to the last operand; and where the next statement begins.
@@ -233,5 +234,20 @@ pub fn first_refusal(src: &[u8]) -> Statements
                 return Statements::Refused { number, start, end };
             }
         }
+    }
+}
+
+// The first refusal of a source: the lexer's over the whole source, then that of its statements.
+pub fn check_source(src: &[u8]) -> Statements
+    ensures { λ r. ⌜ r ≡ codedStatements (sourceStatements (now (src .entry))) ⌝ }
+{
+    let lexed = lex_source::first_refusal(src);
+    match lexed {
+        Lexed::Clean => first_refusal(src),
+        Lexed::Fault { number, start, end } => Statements::Refused {
+            number: number as u16,
+            start,
+            end,
+        },
     }
 }

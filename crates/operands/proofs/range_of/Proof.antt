@@ -1,139 +1,104 @@
+-- `operands::range_of` meets its contract. Assumes nothing.
 use borrow.Author.Needs.{needs}
 use Rattle.operands.proofs.range_of.Statement.{statement}
 use Rattle.operands.proofs.range_of.Tie as tie
-use Rattle.operands.proofs.range_of.Reads as reads
-use Rattle.operands.proofs.range_of.Lts as lts
-use Rattle.operands.proofs.numbers.Reads as numbers-reads
 
--- src/lib.rt:89:22
 enum-told : tie.Need-enum-told
 enum-told c = search needs
 
--- src/lib.rt:89:22
 numbers-requires : tie.Need-numbers-requires
 numbers-requires c κs = search needs
 
--- src/lib.rt:90:22
 enum-told-2 : tie.Need-enum-told-2
 enum-told-2 c = search needs
 
--- src/lib.rt:90:22
 numbers-requires-2 : tie.Need-numbers-requires-2
 numbers-requires-2 c κs = search needs
 
--- src/lib.rt:91:28
 enum-told-3 : tie.Need-enum-told-3
 enum-told-3 c = search needs
 
--- src/lib.rt:91:28
 numbers-requires-3 : tie.Need-numbers-requires-3
 numbers-requires-3 c κs = search needs
 
--- src/lib.rt:92:27
 enum-told-4 : tie.Need-enum-told-4
 enum-told-4 c = search needs
 
--- src/lib.rt:92:27
 numbers-requires-4 : tie.Need-numbers-requires-4
 numbers-requires-4 c κs = search needs
 
--- src/lib.rt:93:25
 enum-told-5 : tie.Need-enum-told-5
 enum-told-5 c = search needs
 
--- src/lib.rt:93:25
 numbers-requires-5 : tie.Need-numbers-requires-5
 numbers-requires-5 c κs = search needs
 
--- src/lib.rt:94:26
 enum-told-6 : tie.Need-enum-told-6
 enum-told-6 c = search needs
 
--- src/lib.rt:94:26
 numbers-requires-6 : tie.Need-numbers-requires-6
 numbers-requires-6 c κs = search needs
 
--- src/lib.rt:95:24
 enum-told-7 : tie.Need-enum-told-7
 enum-told-7 c = search needs
 
--- src/lib.rt:95:24
 numbers-requires-7 : tie.Need-numbers-requires-7
 numbers-requires-7 c κs = search needs
 
--- src/lib.rt:96:24
 enum-told-8 : tie.Need-enum-told-8
 enum-told-8 c = search needs
 
--- src/lib.rt:96:24
 numbers-requires-8 : tie.Need-numbers-requires-8
 numbers-requires-8 c κs = search needs
 
--- src/lib.rt:97:24
 enum-told-9 : tie.Need-enum-told-9
 enum-told-9 c = search needs
 
--- src/lib.rt:97:24
 numbers-requires-9 : tie.Need-numbers-requires-9
 numbers-requires-9 c κs = search needs
 
--- src/lib.rt:98:24
 enum-told-10 : tie.Need-enum-told-10
 enum-told-10 c = search needs
 
--- src/lib.rt:98:24
 numbers-requires-10 : tie.Need-numbers-requires-10
 numbers-requires-10 c κs = search needs
 
--- src/lib.rt:99:24
 enum-told-11 : tie.Need-enum-told-11
 enum-told-11 c = search needs
 
--- src/lib.rt:99:24
 numbers-requires-11 : tie.Need-numbers-requires-11
 numbers-requires-11 c κs = search needs
 
--- src/lib.rt:85:1
 returns : tie.Need-returns
 returns c = rw (c .before .enum-told .given .1) (c .numbers .ensures)
 
--- src/lib.rt:85:1
 returns-2 : tie.Need-returns-2
 returns-2 c = rw (c .before .enum-told2 .given .1) (c .numbers2 .ensures)
 
--- src/lib.rt:85:1
 returns-3 : tie.Need-returns-3
 returns-3 c = rw (c .before .enum-told3 .given .1) (c .numbers3 .ensures)
 
--- src/lib.rt:85:1
 returns-4 : tie.Need-returns-4
 returns-4 c = rw (c .before .enum-told4 .given .1) (c .numbers4 .ensures)
 
--- src/lib.rt:85:1
 returns-5 : tie.Need-returns-5
 returns-5 c = rw (c .before .enum-told5 .given .1) (c .numbers5 .ensures)
 
--- src/lib.rt:85:1
 returns-6 : tie.Need-returns-6
 returns-6 c = rw (c .before .enum-told6 .given .1) (c .numbers6 .ensures)
 
--- src/lib.rt:85:1
 returns-7 : tie.Need-returns-7
 returns-7 c = rw (c .before .enum-told7 .given .1) (c .numbers7 .ensures)
 
--- src/lib.rt:85:1
 returns-8 : tie.Need-returns-8
 returns-8 c = rw (c .before .enum-told8 .given .1) (c .numbers8 .ensures)
 
--- src/lib.rt:85:1
 returns-9 : tie.Need-returns-9
 returns-9 c = rw (c .before .enum-told9 .given .1) (c .numbers9 .ensures)
 
--- src/lib.rt:85:1
 returns-10 : tie.Need-returns-10
 returns-10 c = rw (c .before .enum-told10 .given .1) (c .numbers10 .ensures)
 
--- src/lib.rt:85:1
 returns-11 : tie.Need-returns-11
 returns-11 c = rw (c .before .enum-told11 .given .1) (c .numbers11 .ensures)
 

@@ -1,15 +1,12 @@
+-- `operands::took` meets its contract. Assumes nothing.
 use Rattle.operands.proofs.Answers.{took-given}
 use borrow.Author.Needs.{needs}
 use Rattle.operands.proofs.took.Statement.{statement}
 use Rattle.operands.proofs.took.Tie as tie
-use Rattle.operands.proofs.took.Reads as reads
-use Rattle.operands.proofs.took.Lts as lts
 
--- src/lib.rt:187:15
 add-t4 : tie.Need-add-t4
 add-t4 c = search needs
 
--- src/lib.rt:182:1
 returns : tie.Need-returns
 returns c = search (needs, took-given)
 

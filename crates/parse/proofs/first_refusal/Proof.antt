@@ -1,12 +1,10 @@
+-- `parse::first_refusal` meets its contract. Assumes nothing.
 use Prim.Native.Nat.{_-_}
 use lib.ListN.{length}
 use borrow.Author.Needs.{needs}
 use Rattle.parse.proofs.All.{Rest, rest-start, rest-less, rest-next, rest-none, rest-refused}
 use Rattle.parse.proofs.first_refusal.Statement.{statement}
 use Rattle.parse.proofs.first_refusal.Tie as tie
-use Rattle.parse.proofs.first_refusal.Reads as reads
-use Rattle.parse.proofs.first_refusal.Lts as lts
-use Rattle.parse.proofs.next_statement.Reads as next-statement-reads
 
 abbrev Inv-loop : tie.InvT-loop
 Inv-loop src at₀ at = Rest src at
@@ -14,39 +12,30 @@ Inv-loop src at₀ at = Rest src at
 abbrev μ-loop : tie.MeasureT-loop
 μ-loop src at₀ at = length src - at
 
--- src/lib.rt:223:5
 loop-holds : tie.Need-loop-holds Inv-loop μ-loop
 loop-holds c = search (needs, rest-start)
 
--- src/lib.rt:224:13
 next-statement-requires : tie.Need-next-statement-requires Inv-loop μ-loop
 next-statement-requires c κs = search needs
 
--- src/lib.rt:226:33
 enum-known-statement : tie.Need-enum-known-statement Inv-loop μ-loop
 enum-known-statement c = search needs
 
--- src/lib.rt:223:5
 loop-less : tie.Need-loop-less Inv-loop μ-loop
 loop-less c = search (needs, rest-less)
 
--- src/lib.rt:223:5
 loop-again : tie.Need-loop-again Inv-loop μ-loop
 loop-again c = search (needs, rest-next)
 
--- src/lib.rt:230:17
 enum-told : tie.Need-enum-told Inv-loop μ-loop
 enum-told c = search needs
 
--- src/lib.rt:230:17
 returns : tie.Need-returns Inv-loop μ-loop
 returns c = search (needs, rest-none)
 
--- src/lib.rt:232:38
 enum-known-statement-2 : tie.Need-enum-known-statement-2 Inv-loop μ-loop
 enum-known-statement-2 c = search needs
 
--- src/lib.rt:233:17
 returns-2 : tie.Need-returns-2 Inv-loop μ-loop
 returns-2 c = search (needs, rest-refused)
 

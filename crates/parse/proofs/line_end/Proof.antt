@@ -1,38 +1,27 @@
+-- `parse::line_end` meets its contract. Assumes nothing.
 use Rattle.parse.proofs.Reading.{finish-line, finish-end, finish-no}
 use borrow.Author.Needs.{needs}
 use Rattle.parse.proofs.line_end.Statement.{statement}
 use Rattle.parse.proofs.line_end.Tie as tie
-use Rattle.parse.proofs.line_end.Reads as reads
-use Rattle.parse.proofs.line_end.Lts as lts
-use Rattle.lexeme.proofs.next_lexeme.Reads as next-lexeme-reads
-use Rattle.parse.proofs.read_of.Reads as read-of-reads
-use Rattle.parse.proofs.unfit.Reads as unfit-reads
 
--- src/lib.rt:90:9
 next-lexeme-requires : tie.Need-next-lexeme-requires
 next-lexeme-requires c κs = search needs
 
--- src/lib.rt:92:9
 read-of-requires : tie.Need-read-of-requires
 read-of-requires c κs = search needs
 
--- src/lib.rt:92:9
 returns : tie.Need-returns
 returns c = search (needs, finish-line)
 
--- src/lib.rt:95:9
 read-of-requires-2 : tie.Need-read-of-requires-2
 read-of-requires-2 c κs = search needs
 
--- src/lib.rt:95:9
 returns-2 : tie.Need-returns-2
 returns-2 c = search (needs, finish-end)
 
--- src/lib.rt:97:5
 unfit-requires : tie.Need-unfit-requires
 unfit-requires c κs = search needs
 
--- src/lib.rt:87:1
 returns-3 : tie.Need-returns-3
 returns-3 c = search (needs, finish-no)
 

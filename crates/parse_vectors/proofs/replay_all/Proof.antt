@@ -1,12 +1,10 @@
+-- `parse_vectors::replay_all` meets its contract. Assumes nothing.
 use Prim.Native.Nat.{_-_}
 use mathlib.Core.Path.{_≡_}
 use lib.ListN.{length}
 use borrow.Author.Needs.{needs}
 use Rattle.parse_vectors.proofs.replay_all.Statement.{statement}
 use Rattle.parse_vectors.proofs.replay_all.Tie as tie
-use Rattle.parse_vectors.proofs.replay_all.Reads as reads
-use Rattle.parse_vectors.proofs.replay_all.Lts as lts
-use Rattle.parse_vectors.proofs.replay.Reads as replay-reads
 
 abbrev Inv-loop : tie.InvT-loop
 Inv-loop «data» src₀ at₀ line₀ src at line = length src ≡ length src₀
@@ -14,39 +12,30 @@ Inv-loop «data» src₀ at₀ line₀ src at line = length src ≡ length src�
 abbrev μ-loop : tie.MeasureT-loop
 μ-loop «data» src₀ at₀ line₀ src at line = 100000 - line
 
--- src/main.rt:149:5
 loop-holds : tie.Need-loop-holds Inv-loop μ-loop
 loop-holds c = search needs
 
--- src/main.rt:151:13
 same-length : tie.Need-same-length Inv-loop μ-loop
 same-length c = search needs
 
--- src/main.rt:151:13
 returns : tie.Need-returns Inv-loop μ-loop
 returns c = search needs
 
--- src/main.rt:153:9
 replay-requires : tie.Need-replay-requires Inv-loop μ-loop
 replay-requires c κs = search needs
 
--- src/main.rt:154:9
 add-line : tie.Need-add-line Inv-loop μ-loop
 add-line c = search needs
 
--- src/main.rt:149:5
 loop-less : tie.Need-loop-less Inv-loop μ-loop
 loop-less c = search needs
 
--- src/main.rt:149:5
 loop-again : tie.Need-loop-again Inv-loop μ-loop
 loop-again c = search needs
 
--- src/main.rt:146:1
 same-length-2 : tie.Need-same-length-2 Inv-loop μ-loop
 same-length-2 c = search needs
 
--- src/main.rt:146:1
 returns-2 : tie.Need-returns-2 Inv-loop μ-loop
 returns-2 c = search needs
 

@@ -1,14 +1,10 @@
+-- `parse_vectors::unhex` meets its contract. Assumes nothing.
 use Prim.Native.Nat.{_-_}
 use mathlib.Core.Path.{_≡_}
 use lib.ListN.{length}
 use borrow.Author.Needs.{needs}
 use Rattle.parse_vectors.proofs.unhex.Statement.{statement}
 use Rattle.parse_vectors.proofs.unhex.Tie as tie
-use Rattle.parse_vectors.proofs.unhex.Reads as reads
-use Rattle.parse_vectors.proofs.unhex.Lts as lts
-use Rattle.std.proofs.num.wrapping_add_usize.Reads as wrapping-add-usize-reads
-use Rattle.text.proofs.byte_at.Reads as byte-at-reads
-use Rattle.text.proofs.digit_value.Reads as digit-value-reads
 
 abbrev Inv-loop : tie.InvT-loop
 Inv-loop digits src₀ n₀ src n = length src ≡ length src₀
@@ -16,59 +12,45 @@ Inv-loop digits src₀ n₀ src n = length src ≡ length src₀
 abbrev μ-loop : tie.MeasureT-loop
 μ-loop digits src₀ n₀ src n = length src₀ - n
 
--- src/main.rt:52:5
 loop-holds : tie.Need-loop-holds Inv-loop μ-loop
 loop-holds c = search needs
 
--- src/main.rt:55:42
 byte-at-requires : tie.Need-byte-at-requires Inv-loop μ-loop
 byte-at-requires c κs = search needs
 
--- src/main.rt:55:17
 digit-value-requires : tie.Need-digit-value-requires Inv-loop μ-loop
 digit-value-requires c κs = search needs
 
--- src/main.rt:56:63
 wrapping-add-usize-requires : tie.Need-wrapping-add-usize-requires Inv-loop μ-loop
 wrapping-add-usize-requires c κs = search needs
 
--- src/main.rt:56:41
 byte-at-requires-2 : tie.Need-byte-at-requires-2 Inv-loop μ-loop
 byte-at-requires-2 c κs = search needs
 
--- src/main.rt:56:17
 digit-value-requires-2 : tie.Need-digit-value-requires-2 Inv-loop μ-loop
 digit-value-requires-2 c κs = search needs
 
--- src/main.rt:57:13
 slice-write-src : tie.Need-slice-write-src Inv-loop μ-loop
 slice-write-src c = search needs
 
--- src/main.rt:58:13
 add-n : tie.Need-add-n Inv-loop μ-loop
 add-n c = search needs
 
--- src/main.rt:52:5
 loop-less : tie.Need-loop-less Inv-loop μ-loop
 loop-less c = search needs
 
--- src/main.rt:52:5
 loop-again : tie.Need-loop-again Inv-loop μ-loop
 loop-again c = search needs
 
--- src/main.rt:60:13
 same-length : tie.Need-same-length Inv-loop μ-loop
 same-length c = search needs
 
--- src/main.rt:60:13
 returns : tie.Need-returns Inv-loop μ-loop
 returns c = search needs
 
--- src/main.rt:50:1
 same-length-2 : tie.Need-same-length-2 Inv-loop μ-loop
 same-length-2 c = search needs
 
--- src/main.rt:50:1
 returns-2 : tie.Need-returns-2 Inv-loop μ-loop
 returns-2 c = search needs
 

@@ -1,28 +1,22 @@
+-- `statement_rows::cell` meets its contract. Assumes nothing.
 use mathlib.Core.Path.{refl}
 use Rattle.statement_rows.specs.Rows.{table, cells}
 use borrow.Author.Needs.{needs}
 use Rattle.statement_rows.proofs.cell.Statement.{statement}
 use Rattle.statement_rows.proofs.cell.Tie as tie
-use Rattle.statement_rows.proofs.cell.Reads as reads
-use Rattle.statement_rows.proofs.cell.Lts as lts
 
--- src/lib.rt:79:5
 mul-result : tie.Need-mul-result
 mul-result c = search needs
 
--- src/lib.rt:79:5
 mul-result-2 : tie.Need-mul-result-2
 mul-result-2 c = search needs
 
--- src/lib.rt:79:5
 index-1-result : tie.Need-index-1-result
 index-1-result c = search needs
 
--- src/lib.rt:79:5
 index-2-result : tie.Need-index-2-result
 index-2-result c = search needs
 
--- src/lib.rt:75:1
 returns : tie.Need-returns
 unfolding table cells
 returns c = refl

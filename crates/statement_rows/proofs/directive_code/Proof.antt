@@ -1,84 +1,63 @@
+-- `statement_rows::directive_code` meets its contract. Assumes nothing.
 use Rattle.statement_rows.proofs.Table.{code-1, code-2, code-3, code-4, code-5, code-6, code-none}
 use borrow.Author.Needs.{needs}
 use Rattle.statement_rows.proofs.directive_code.Statement.{statement}
 use Rattle.statement_rows.proofs.directive_code.Tie as tie
-use Rattle.statement_rows.proofs.directive_code.Reads as reads
-use Rattle.statement_rows.proofs.directive_code.Lts as lts
-use Rattle.text.proofs.same_name.Reads as same-name-reads
 
--- src/lib.rt:135:30
 slice-aggregate-same-name : tie.Need-slice-aggregate-same-name
 slice-aggregate-same-name c = search needs
 
--- src/lib.rt:135:8
 same-name-requires : tie.Need-same-name-requires
 same-name-requires c κs = search needs
 
--- src/lib.rt:136:9
 returns : tie.Need-returns
 returns c = search (needs, code-1)
 
--- src/lib.rt:138:30
 slice-aggregate-same-name-2 : tie.Need-slice-aggregate-same-name-2
 slice-aggregate-same-name-2 c = search needs
 
--- src/lib.rt:138:8
 same-name-requires-2 : tie.Need-same-name-requires-2
 same-name-requires-2 c κs = search needs
 
--- src/lib.rt:139:9
 returns-2 : tie.Need-returns-2
 returns-2 c = search (needs, code-2)
 
--- src/lib.rt:141:30
 slice-aggregate-same-name-3 : tie.Need-slice-aggregate-same-name-3
 slice-aggregate-same-name-3 c = search needs
 
--- src/lib.rt:141:8
 same-name-requires-3 : tie.Need-same-name-requires-3
 same-name-requires-3 c κs = search needs
 
--- src/lib.rt:142:9
 returns-3 : tie.Need-returns-3
 returns-3 c = search (needs, code-3)
 
--- src/lib.rt:144:30
 slice-aggregate-same-name-4 : tie.Need-slice-aggregate-same-name-4
 slice-aggregate-same-name-4 c = search needs
 
--- src/lib.rt:144:8
 same-name-requires-4 : tie.Need-same-name-requires-4
 same-name-requires-4 c κs = search needs
 
--- src/lib.rt:145:9
 returns-4 : tie.Need-returns-4
 returns-4 c = search (needs, code-4)
 
--- src/lib.rt:147:30
 slice-aggregate-same-name-5 : tie.Need-slice-aggregate-same-name-5
 slice-aggregate-same-name-5 c = search needs
 
--- src/lib.rt:147:8
 same-name-requires-5 : tie.Need-same-name-requires-5
 same-name-requires-5 c κs = search needs
 
--- src/lib.rt:148:9
 returns-5 : tie.Need-returns-5
 returns-5 c = search (needs, code-5)
 
--- src/lib.rt:150:30
 slice-aggregate-same-name-6 : tie.Need-slice-aggregate-same-name-6
 slice-aggregate-same-name-6 c = search needs
 
--- src/lib.rt:150:8
 same-name-requires-6 : tie.Need-same-name-requires-6
 same-name-requires-6 c κs = search needs
 
--- src/lib.rt:151:9
 returns-6 : tie.Need-returns-6
 returns-6 c = search (needs, code-6)
 
--- src/lib.rt:132:1
 returns-7 : tie.Need-returns-7
 returns-7 c = search (needs, code-none)
 

@@ -1,3 +1,4 @@
+-- `statement_rows::field_of` meets its contract. Assumes nothing.
 use mathlib.Core.Path.{sym, ap}
 use borrow.Author.Needs.{needs}
 use Rattle.rules.specs.Base.{if_then_else_}
@@ -5,60 +6,47 @@ use Rattle.statement_rows.specs.Rows.{fieldAt}
 use Rattle.statement_rows.proofs.Table.{field-rest}
 use Rattle.statement_rows.proofs.field_of.Statement.{statement}
 use Rattle.statement_rows.proofs.field_of.Tie as tie
-use Rattle.statement_rows.proofs.field_of.Reads as reads
-use Rattle.statement_rows.proofs.field_of.Lts as lts
 
--- src/lib.rt:83:1
 returns : tie.Need-returns
 unfolding fieldAt if_then_else_
 returns c = sym (ap fieldAt (c .match .keys1))
 
--- src/lib.rt:83:1
 returns-2 : tie.Need-returns-2
 unfolding fieldAt if_then_else_
 returns-2 c = sym (ap fieldAt (c .match .keys2))
 
--- src/lib.rt:83:1
 returns-3 : tie.Need-returns-3
 unfolding fieldAt if_then_else_
 returns-3 c = sym (ap fieldAt (c .match .keys3))
 
--- src/lib.rt:83:1
 returns-4 : tie.Need-returns-4
 unfolding fieldAt if_then_else_
 returns-4 c = sym (ap fieldAt (c .match .keys4))
 
--- src/lib.rt:83:1
 returns-5 : tie.Need-returns-5
 unfolding fieldAt if_then_else_
 returns-5 c = sym (ap fieldAt (c .match .keys5))
 
--- src/lib.rt:83:1
 returns-6 : tie.Need-returns-6
 unfolding fieldAt if_then_else_
 returns-6 c = sym (ap fieldAt (c .match .keys6))
 
--- src/lib.rt:83:1
 returns-7 : tie.Need-returns-7
 unfolding fieldAt if_then_else_
 returns-7 c = sym (ap fieldAt (c .match .keys7))
 
--- src/lib.rt:83:1
 returns-8 : tie.Need-returns-8
 unfolding fieldAt if_then_else_
 returns-8 c = sym (ap fieldAt (c .match .keys8))
 
--- src/lib.rt:83:1
 returns-9 : tie.Need-returns-9
 unfolding fieldAt if_then_else_
 returns-9 c = sym (ap fieldAt (c .match .keys9))
 
--- src/lib.rt:83:1
 returns-10 : tie.Need-returns-10
 unfolding fieldAt if_then_else_
 returns-10 c = sym (ap fieldAt (c .match .keys10))
 
--- src/lib.rt:83:1
 returns-11 : tie.Need-returns-11
 returns-11 c = search (needs, field-rest)
 

@@ -1,50 +1,36 @@
+-- `statement_rows::row_at` meets its contract. Assumes nothing.
 use Rattle.statement_rows.proofs.Table.{row-made}
 use borrow.Author.Needs.{needs}
 use Rattle.statement_rows.proofs.row_at.Statement.{statement}
 use Rattle.statement_rows.proofs.row_at.Tie as tie
-use Rattle.statement_rows.proofs.row_at.Reads as reads
-use Rattle.statement_rows.proofs.row_at.Lts as lts
-use Rattle.statement_rows.proofs.cell.Reads as cell-reads
-use Rattle.statement_rows.proofs.field_of.Reads as field-of-reads
-use Rattle.statement_rows.proofs.op_of.Reads as op-of-reads
 
--- src/lib.rt:122:13
 op-of-requires : tie.Need-op-of-requires
 op-of-requires c κs = search needs
 
--- src/lib.rt:123:15
 cell-requires : tie.Need-cell-requires
 cell-requires c κs = search needs
 
--- src/lib.rt:124:16
 cell-requires-2 : tie.Need-cell-requires-2
 cell-requires-2 c κs = search needs
 
--- src/lib.rt:125:25
 cell-requires-3 : tie.Need-cell-requires-3
 cell-requires-3 c κs = search needs
 
--- src/lib.rt:125:16
 field-of-requires : tie.Need-field-of-requires
 field-of-requires c κs = search needs
 
--- src/lib.rt:126:26
 cell-requires-4 : tie.Need-cell-requires-4
 cell-requires-4 c κs = search needs
 
--- src/lib.rt:126:17
 field-of-requires-2 : tie.Need-field-of-requires-2
 field-of-requires-2 c κs = search needs
 
--- src/lib.rt:127:25
 cell-requires-5 : tie.Need-cell-requires-5
 cell-requires-5 c κs = search needs
 
--- src/lib.rt:127:16
 field-of-requires-3 : tie.Need-field-of-requires-3
 field-of-requires-3 c κs = search needs
 
--- src/lib.rt:117:1
 returns : tie.Need-returns
 returns c = search (needs, row-made)
 
