@@ -2,16 +2,16 @@
 -- Assumes nothing.
 use Prim.Native.Nat.{ℕ, _^_, _≤_, _<_}
 use mathlib.Core.Bool.{Bool, true, false}
-use mathlib.Core.List.{List, _∷_, map}
-use mathlib.Core.Option.{some}
-use mathlib.Core.Path.{_≡_}
+use mathlib.Core.List.{List, [], _∷_, map}
+use mathlib.Core.Option.{none, some}
+use mathlib.Core.Path.{_≡_, sym, _∙_}
 use lib.ListN.{length, getD}
 use Rattle.rules.specs.Tokens.{Match, tokenAt, tokenIn, upper, nextToken, lexed}
 use Rattle.rules.specs.Tokens as Kinds
 use Rattle.rules.specs.Patterns.{patterns, LongestMatch}
 use Rattle.rules.specs.Examples.{EveryRow}
 use Rattle.rules.specs.Base.{ok, span, nowhere}
-use Rattle.rules.specs.Statements.{fit}
+use Rattle.rules.specs.Statements.{Name, fit, nameAt, pastLines, pastLabel, labelsAt, Read, nextStatement, statements}
 use Rattle.rules.specs.Words as R
 use Rattle.rules.specs.Words.{Range, signed, offset, fits, reach, field, extend, Instr, word, disassemble, line, Shown}
 use Rattle.rules.specs.Objects.{Object, Counts, countsOf, flat, lookupLabel, Good}
@@ -19,6 +19,15 @@ use Rattle.rules.specs.Buffers.{Buffers, short, lentWords, view, layout, Valid}
 use Rattle.rules.specs.Examples as Examples
 use Rattle.rules.proofs.Longest as Longest
 use Rattle.rules.proofs.Walk.{verdict}
+use Rattle.rules.proofs.Ahead as Ahead
+use Rattle.rules.proofs.Following as Following
+use Rattle.rules.proofs.Following.{Goes}
+use Rattle.labels.specs.Walk.{labelFrom}
+use Rattle.labels.specs.declared.NextLabel.{NextLabel}
+use Rattle.parse.specs.Coded.{codedStatement, codedStatements, sourceStatements}
+use Rattle.parse.specs.declared.NextStatement.{NextStatement}
+use Rattle.parse.specs.declared.Statements.{Statements}
+use Rattle.parse.proofs.Unique as Parser
 use Rattle.reserved.specs.declared.Ident.{Ident}
 use Rattle.token.specs.Coded.{coded}
 use Rattle.token.specs.Meant as Meant
@@ -87,6 +96,30 @@ label-text-one-answer s start end r t = Lexer.label-text-one s start end
 
 pub first-refusal-one-answer : (s : List ℕ) (r t : Lexed) → meantLexed r ≡ verdict (lexed s) → meantLexed t ≡ verdict (lexed s) → r ≡ t
 first-refusal-one-answer = Lexer.first-refusal-one
+
+-- THE CODE OF STATEMENTS, crates `labels` and `parse`. A statement's labels, walked one at a time by `next_label`, are exactly the rule's.
+pub labels-one-by-one : (s : List ℕ) (at : ℕ) (n : Name) → nameAt s (pastLines s at) ≡ some n → labelsAt s at ≡ n ∷ labelsAt s (pastLabel s at)
+labels-one-by-one = Ahead.names-on
+
+pub labels-end : (s : List ℕ) (at : ℕ) → nameAt s (pastLines s at) ≡ none → labelsAt s at ≡ []
+labels-end = Ahead.names-done
+
+-- A statement goes on from its place and not past the source, so that reading one after another ends.
+pub statement-goes-on : (s : List ℕ) (at : ℕ) (x : Read) → nextStatement s at ≡ ok (some x) → Goes s at x
+statement-goes-on = Following.statement-goes
+
+-- Two answers that a contract allows are equal: `next_label`; `next_statement`; `first_refusal` (13 to 16); `check_source` (11, 12, 1 to 10, then 13 to 16).
+pub next-label-one-answer : (s : List ℕ) (at : ℕ) (r t : NextLabel) → r ≡ labelFrom s at → t ≡ labelFrom s at → r ≡ t
+next-label-one-answer s at r t p q = p ∙ sym q
+
+pub next-statement-one-answer : (s : List ℕ) (at : ℕ) (r t : NextStatement) → r ≡ codedStatement (nextStatement s at) → t ≡ codedStatement (nextStatement s at) → r ≡ t
+next-statement-one-answer = Parser.next-statement-one-answer
+
+pub statements-one-answer : (s : List ℕ) (r t : Statements) → r ≡ codedStatements (statements s) → t ≡ codedStatements (statements s) → r ≡ t
+statements-one-answer = Parser.first-refusal-one-answer
+
+pub check-source-one-answer : (s : List ℕ) (r t : Statements) → r ≡ codedStatements (sourceStatements s) → t ≡ codedStatements (sourceStatements s) → r ≡ t
+check-source-one-answer = Parser.check-source-one-answer
 
 -- MARKED EXAMPLES. P1 to P10: each row of the table gives its answer.
 pub marked-examples : EveryRow
