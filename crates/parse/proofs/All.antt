@@ -5,9 +5,8 @@ use mathlib.Core.List.{List, [], _∷_}
 use mathlib.Core.Option.{Option, none, some}
 use native.Mathlib.Omega.{arith}
 use lib.ListN.{length}
-use Rattle.rules.specs.Base.{Outcome, ok, refused, Refusal, _>>=_}
+use Rattle.rules.specs.Base.{Outcome, ok, refused, Refusal, refuse, _>>=_, span, nowhere}
 use Rattle.rules.specs.Statements.{Stmt, Read, nextStatement, statementsAt, statements}
-use Rattle.rules.specs.Base.{refuse, span, nowhere}
 use Rattle.rules.specs.Tokens.{Token, lexed}
 use Rattle.rules.proofs.Walk.{verdict}
 use Rattle.lex_source.specs.declared.Lexed.{Lexed}
