@@ -32,6 +32,13 @@ use Rattle.words.specs.declared.disassembly.Disassembled.{Disassembled}
 use Rattle.words.specs.declared.disassembly.Disassembled.the-variants as D
 use Rattle.words.specs.declared.disassembly.Line.{Line}
 use Rattle.words.proofs.Promises as Words
+use Rattle.rules.specs.Base.{ok}
+use Rattle.rules.specs.Statements.{Read, nextStatement, statements}
+use Rattle.parse.specs.declared.NextStatement.{NextStatement}
+use Rattle.parse.specs.declared.Statements.{Statements}
+use Rattle.parse.specs.Coded.{codedStatement, codedStatements, sourceStatements}
+use Rattle.parse.proofs.Reach as Reach
+use Rattle.parse.proofs.Unique as Parse
 
 -- TOKENS. Each token is the longest match of the patterns of lex.rs at its place, at equal length of the pattern declared first:
 -- a number or register before a word. It is so of every first byte and every rest, and there is one longest match only.
@@ -102,3 +109,17 @@ offset-one-answer = Words.offset-one-answer
 
 pub value-one-answer : (f : Range) (d : ℕ) (r s : Encoded) → r ≡ encoded (R.bits (R.num f) (R.value d)) → s ≡ encoded (R.bits (R.num f) (R.value d)) → r ≡ s
 value-one-answer = Words.value-one-answer
+
+-- STATEMENTS, crate `parse`. Two answers that a contract allows are equal: `next_statement`; `first_refusal`; `check_source`, the lexer's refusals before those of statements.
+pub next-statement-one-answer : (s : List ℕ) (at : ℕ) (r q : NextStatement) → r ≡ codedStatement (nextStatement s at) → q ≡ codedStatement (nextStatement s at) → r ≡ q
+next-statement-one-answer = Parse.next-statement-one-answer
+
+pub first-refusal-one-answer : (s : List ℕ) (r q : Statements) → r ≡ codedStatements (statements s) → q ≡ codedStatements (statements s) → r ≡ q
+first-refusal-one-answer = Parse.first-refusal-one-answer
+
+pub check-source-one-answer : (s : List ℕ) (r q : Statements) → r ≡ codedStatements (sourceStatements s) → q ≡ codedStatements (sourceStatements s) → r ≡ q
+check-source-one-answer = Parse.check-source-one-answer
+
+-- In an accepted statement a label operand goes to an offset9 or an offset11 of an instruction, or to the word of .fill or .external.
+pub label-operand-field : (s : List ℕ) (i : ℕ) (x : Read) → nextStatement s i ≡ ok (some x) → Reach.Holds (Reach.Reached (x .stmt .op)) (x .stmt .target)
+label-operand-field = Reach.statement-known
