@@ -1,7 +1,7 @@
 -- Statements one after another, as the loop over them goes. Assumes nothing.
-use Prim.Native.Nat.{ℕ, zero, suc, _+_, _-_, _≤_, _<_}
+use Prim.Native.Nat.{ℕ, _-_, _≤_, _<_}
 use mathlib.Core.Path.{_≡_, refl, sym, _∙_, ap}
-use mathlib.Core.List.{List, [], _∷_}
+use mathlib.Core.List.{List, _∷_}
 use mathlib.Core.Option.{Option, none, some}
 use native.Mathlib.Omega.{arith}
 use lib.ListN.{length}
@@ -12,7 +12,7 @@ use Rattle.rules.proofs.Walk.{verdict}
 use Rattle.lex_source.specs.declared.Lexed.{Lexed}
 use Rattle.lex_source.specs.declared.Lexed.the-variants.{Clean, Fault}
 use Rattle.lex_source.specs.Lexed.{meantLexed}
-use Rattle.rules.proofs.Following.{Goes, statement-goes, statements-on, statements-none, statements-refused}
+use Rattle.rules.proofs.Following.{statement-goes, statements-on, statements-none, statements-refused}
 use Rattle.parse.specs.declared.Statement.{Statement}
 use Rattle.parse.specs.declared.NextStatement.{NextStatement}
 use Rattle.parse.specs.declared.NextStatement.the-variants.{End, Refused}

@@ -1,6 +1,6 @@
 -- In an accepted statement the label operand's field is known by what the statement does. Assumes nothing.
 use Prim.Native.Nat.{ℕ, _+_, _*_}
-use mathlib.Core.Path.{_≡_, refl, sym, _∙_, ap}
+use mathlib.Core.Path.{_≡_, refl, ap}
 use mathlib.Core.Bool.{Bool, true, false, _&&_}
 use mathlib.Core.List.{List, [], _∷_}
 use mathlib.Core.Logic.{_⊎_, inl, inr}
@@ -12,7 +12,7 @@ use Rattle.rules.specs.Base.{if_then_else_, same, Outcome, ok, refused, refuse,
 use Rattle.rules.specs.Tokens.{Num, Token, nextToken}
 use Rattle.rules.specs.Words.{Range, signed, unsigned, anyWord, Field, reg, regOrImm, num, near, name, string, Op, instr, orig, fill, blkw, stringz, end, external, Row, instructions, directives, find}
 use Rattle.rules.specs.Statements.{Name, Target, Piece, bits, target, chars, Given, bare, add, asRegister, asNumber, asLabel, asText, asWord, asDirective, isMark, fit, named, need, operand, ends, tokenIs, pastLines, pastLabels, labelsAt, operandAt, commaAt, moreFrom, operandsFrom, lineEnd, Read, read, stmt, rowRead, instrRead, tokenRead, nextStatement}
-use Rattle.rules.proofs.Following.{Gave, gave}
+use Rattle.rules.proofs.Following.{gave}
 use Rattle.lines.specs.Lines.{reachOf}
 
 -- the fields that a label may go to: offset9 or offset11 in an instruction, a word in .fill and .external, and none elsewhere
