@@ -1,20 +1,18 @@
 -- Operands after operands: the code's reading is the rules'. Assumes nothing.
 use Prim.Native.Nat.{ℕ, zero, suc, _+_, _≤_, _<_}
 use mathlib.Core.Path.{_≡_, refl, sym, _∙_, ap}
-use mathlib.Core.Bool.{Bool, true, false}
 use mathlib.Core.List.{List, [], _∷_}
-use mathlib.Core.Option.{Option, none, some}
 use native.Mathlib.Decide.{decLt}
 use native.Mathlib.Omega.{arith}
 use borrow.Author.Tests.{eq-eqb, ne-eqb}
 use lib.Dec.{eqb}
 use Rattle.rules.specs.Base.{if_then_else_, Outcome, ok, refused, refuse, require, _>>=_, span}
-use Rattle.rules.specs.Tokens.{Token, tokenIn, nextToken}
+use Rattle.rules.specs.Tokens.{Token, nextToken}
 use Rattle.rules.specs.Words.{Field}
-use Rattle.rules.specs.Statements.{Piece, bits, target, chars, isMark, operand, add, bare, commaAt, operandAt, moreFrom, operandsFrom}
+use Rattle.rules.specs.Statements.{Piece, bits, target, chars, operand, add, bare, commaAt, operandAt, moreFrom, operandsFrom}
 use Rattle.rules.specs.Statements as rules
 use Rattle.lexeme.specs.declared.Lexeme.{Lexeme}
-use Rattle.lexeme.specs.Sorts.{kindBy, Stands}
+use Rattle.lexeme.specs.Sorts.{Stands}
 use Rattle.lexeme.proofs.Marks.{comma-sort}
 use Rattle.operands.specs.declared.Field as code
 use Rattle.operands.specs.declared.Given.{Given}

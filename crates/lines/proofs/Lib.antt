@@ -1,2 +1,3 @@
 -- Laws that the proofs of `lines` cite. Assumes nothing.
 pub mod Following
+pub mod Unique

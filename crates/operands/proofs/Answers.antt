@@ -1,26 +1,26 @@
 -- What each way through the reading of one operand answers. Assumes nothing.
-use Prim.Native.Nat.{ℕ, zero, suc, _+_, _-_, _*_, _%_, _≤_, _<_}
+use Prim.Native.Nat.{ℕ, _+_, _-_, _*_, _%_, _≤_, _<_}
 use mathlib.Core.Path.{_≡_, refl, sym, _∙_, ap}
 use mathlib.Core.Bool.{Bool, true, false}
-use mathlib.Core.List.{List, [], _∷_}
-use mathlib.Core.Option.{Option, none, some}
+use mathlib.Core.List.{List}
+use mathlib.Core.Option.{none}
 use native.Mathlib.Nat.{mod-lt, mul-le-mul}
 use native.Mathlib.Omega.{arith}
 use borrow.Author.Tests.{eq-eqb, ne-eqb, le-leb, lt-leb}
-use lib.Dec.{eqb, leb}
+use lib.Dec.{leb}
 use lib.ListN.{length}
-use Rattle.rules.specs.Base.{if_then_else_, Outcome, ok, refused, refuse, _>>=_, Span, span}
-use Rattle.rules.specs.Tokens.{Num, plus, minus, Kind, Token, tokenIn, number, register, word, text, nextToken}
-use Rattle.rules.specs.Words.{Row, find, instructions}
-use Rattle.rules.specs.Statements.{Piece, bits, target, chars, inRange, reduced, named, operand}
+use Rattle.rules.specs.Base.{if_then_else_, ok, span}
+use Rattle.rules.specs.Tokens.{plus, minus, tokenIn, number, register, word, text}
+use Rattle.rules.specs.Words.{find, instructions}
+use Rattle.rules.specs.Statements.{bits, target, chars, inRange, reduced, named, operand}
 use Rattle.lexeme.specs.declared.Lexeme.{Lexeme}
 use Rattle.operands.specs.declared.Field.{Field}
 use Rattle.operands.specs.declared.Range.{Range}
 use Rattle.operands.specs.declared.Given.{Given}
 use Rattle.operands.specs.declared.Step.{Step}
 use Rattle.operands.specs.declared.Step.the-variants.{Took, Refused}
-use Rattle.operands.specs.Coded.{fieldOf, multiplierOf, rangeOf, raiseOf, raised, reachOf, textsOf, given, addTo, stepped, numOf, misplacedAt, Below, Adds}
-use Rattle.operands.proofs.Reading.{step-refused, step-bits, step-other, register-no, register-yes, multiplier-most, ranged, number-no, number-in, number-out, raised-is, Sound, sound, reached, label-no, label-yes, reached-is, text-no, text-yes}
+use Rattle.operands.specs.Coded.{fieldOf, multiplierOf, rangeOf, raiseOf, reachOf, textsOf, given, addTo, stepped, numOf, misplacedAt, Adds}
+use Rattle.operands.proofs.Reading.{step-refused, step-bits, step-other, register-no, register-yes, multiplier-most, number-no, number-in, number-out, raised-is, sound, reached, label-no, label-yes, reached-is, text-no, text-yes}
 
 pub took-given : (g : Given) (n i : ℕ) → Took (given (g .bits + n) (g .reach) (g .«label_start») (g .«label_end») (g .«text_start») (g .«text_end») i) ≡ Took (addTo g (bits n) i)
 unfolding addTo

@@ -1,28 +1,25 @@
 -- The operand at a place, by its token's sort. Assumes nothing.
-use Prim.Native.Nat.{ℕ, zero, suc, _+_, _-_, _*_, _%_, _≤_, _<_}
-use mathlib.Core.Path.{_≡_, refl, sym, _∙_, ap}
-use mathlib.Core.Bool.{Bool, true, false}
-use mathlib.Core.List.{List, [], _∷_}
-use mathlib.Core.Option.{Option, none, some}
-use native.Mathlib.Decide.{decLt, ℕ-discrete}
+use Prim.Native.Nat.{ℕ, zero, suc, _-_, _≤_, _<_}
+use mathlib.Core.Path.{_≡_, refl, sym, _∙_}
+use mathlib.Core.List.{List}
+use mathlib.Core.Option.{none, some}
+use native.Mathlib.Decide.{decLt}
 use native.Mathlib.Omega.{arith}
 use borrow.Author.Tests.{eq-eqb, ne-eqb}
-use lib.Dec.{eqb}
 use lib.ListN.{length, getD}
-use Rattle.rules.specs.Base.{if_then_else_, Outcome, ok, refused, refuse, _>>=_, Span, span}
-use Rattle.rules.specs.Tokens.{Num, plus, minus, Kind, Token, tokenIn, number, register, mark, word, directive, text, nextToken}
+use Rattle.rules.specs.Base.{if_then_else_, ok, refuse, Span, span}
+use Rattle.rules.specs.Tokens.{Kind, tokenIn, number, register, word, text, nextToken}
 use Rattle.rules.specs.Words.{find, instructions}
 use Rattle.rules.specs.Words as words
-use Rattle.rules.specs.Statements.{Piece, asNumber, asRegister, asWord, asText, asLabel, need, operand}
-use Rattle.rules.proofs.Run.{inRun}
+use Rattle.rules.specs.Statements.{asNumber, asRegister, asWord, asText, asLabel, need, operand}
 use Rattle.token.specs.Meant.{kindAt}
 use Rattle.lexeme.specs.declared.Lexeme.{Lexeme}
 use Rattle.lexeme.specs.Sorts.{nameOf, kindBy, noRow, Stands}
 use Rattle.operands.specs.declared.Field.{Field}
 use Rattle.operands.specs.declared.Given.{Given}
 use Rattle.operands.specs.declared.Step.{Step}
-use Rattle.operands.specs.declared.Step.the-variants.{Took, Refused}
-use Rattle.operands.specs.Coded.{fieldOf, addTo, told, stepped, operandGiven, operandStep, numOf, misplacedAt, Below, Adds}
+use Rattle.operands.specs.declared.Step.the-variants.{Refused}
+use Rattle.operands.specs.Coded.{fieldOf, told, stepped, operandGiven, operandStep, numOf, misplacedAt, Below, Adds}
 
 -- a token that no operand is
 other-token : (f : words.Field) (other : ℕ) (k : Kind) (p : Span) → asRegister k ≡ none → asNumber k ≡ none → asLabel k ≡ none → asText k ≡ none → operand f other (tokenIn k p) ≡ refuse other p

@@ -1,27 +1,21 @@
 -- One operand by the sort of its token, for every field. Assumes nothing.
-use Prim.Native.Nat.{ℕ, zero, suc, _+_, _-_, _*_, _%_, _≤_, _<_}
-use mathlib.Core.Path.{_≡_, refl, sym, _∙_, ap}
-use mathlib.Core.Bool.{Bool, true, false}
-use mathlib.Core.List.{List, [], _∷_}
-use mathlib.Core.Option.{Option, none, some}
-use native.Mathlib.Nat.{mod-lt, mul-one}
+use Prim.Native.Nat.{ℕ, _+_, _-_, _*_, _≤_}
+use mathlib.Core.Path.{_≡_, refl, _∙_, ap}
+use mathlib.Core.Bool.{true, false}
+use mathlib.Core.List.{List}
+use mathlib.Core.Option.{none}
 use native.Mathlib.Omega.{arith}
-use borrow.Author.Tests.{eq-eqb, ne-eqb, le-leb, lt-leb}
-use lib.Dec.{eqb, leb}
-use lib.ListN.{length}
-use Rattle.rules.specs.Base.{if_then_else_, Outcome, ok, refused, refuse, _>>=_, Span, span}
-use Rattle.rules.specs.Tokens.{Num, plus, minus, Kind, Token, tokenIn, number, register, word, text, nextToken}
-use Rattle.rules.specs.Words.{Row, find, instructions, signed, unsigned, anyWord}
+use Rattle.rules.specs.Base.{if_then_else_, Outcome, ok, refuse, _>>=_, Span, span}
+use Rattle.rules.specs.Tokens.{Num, tokenIn, number, register, word, text}
+use Rattle.rules.specs.Words.{find, instructions, signed, unsigned, anyWord}
 use Rattle.rules.specs.Words as words
-use Rattle.rules.specs.Statements.{Piece, bits, target, chars, Target, asNumber, asRegister, asWord, asText, asLabel, inRange, reduced, fit, named, need, operand}
-use Rattle.lexeme.specs.declared.Lexeme.{Lexeme}
+use Rattle.rules.specs.Statements.{Piece, bits, target, chars, asNumber, asRegister, asWord, asText, asLabel, inRange, reduced, fit, named, need, operand}
 use Rattle.operands.specs.declared.Field.{Field}
 use Rattle.operands.specs.declared.Field.the-variants.{Dr, Sr, RegOrImm, Offset6, Near9, Near11, Trap, Word, Fill, Name, Text}
-use Rattle.operands.specs.declared.Range.{Range}
 use Rattle.operands.specs.declared.Given.{Given}
 use Rattle.operands.specs.declared.Step.{Step}
 use Rattle.operands.specs.declared.Step.the-variants.{Took, Refused}
-use Rattle.operands.specs.Coded.{fieldOf, multiplierOf, rangeOf, raiseOf, raised, reachOf, textsOf, given, addTo, told, stepped, operandGiven, operandStep, numOf, misplacedAt, Below, Adds}
+use Rattle.operands.specs.Coded.{fieldOf, multiplierOf, rangeOf, raiseOf, raised, reachOf, textsOf, addTo, told, stepped, Below, Adds}
 
 -- a refusal of an operand, and bits that it gives
 module _ (g : Given) (o : Outcome Piece) (i : ℕ) where

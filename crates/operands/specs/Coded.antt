@@ -1,15 +1,14 @@
 -- Fields and what operands give, as the code has them. Assumes nothing.
-use Prim.Native.Nat.{ℕ, zero, suc, _+_, _*_, _≤_}
+use Prim.Native.Nat.{ℕ, _+_, _≤_}
 use mathlib.Core.Bool.{Bool, true, false}
-use mathlib.Core.List.{List, [], _∷_}
-use mathlib.Core.Option.{Option, none, some}
+use mathlib.Core.List.{List}
 use mathlib.Core.Path.{_≡_}
 use lib.Dec.{eqb}
-use Rattle.rules.specs.Base.{if_then_else_, Outcome, ok, refused, _>>=_, Span, span}
+use Rattle.rules.specs.Base.{if_then_else_, Outcome, ok, refused, _>>=_}
 use Rattle.rules.specs.Tokens.{Num, plus, minus, nextToken}
 use Rattle.rules.specs.Words.{reg, regOrImm, num, near, name, string, signed, unsigned, anyWord}
 use Rattle.rules.specs.Words as words
-use Rattle.rules.specs.Statements.{Piece, bits, target, chars, Target, operand}
+use Rattle.rules.specs.Statements.{Piece, bits, target, chars, operand}
 use Rattle.lexeme.specs.declared.Lexeme.{Lexeme}
 use Rattle.operands.specs.declared.Field.{Field}
 use Rattle.operands.specs.declared.Field.the-variants.{Dr, Sr, RegOrImm, Offset6, Near9, Near11, Trap, Word, Fill, Name, Text}

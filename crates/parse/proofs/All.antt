@@ -1,19 +1,18 @@
 -- Statements one after another, as the loop over them goes. Assumes nothing.
-use Prim.Native.Nat.{ℕ, zero, suc, _+_, _-_, _≤_, _<_}
+use Prim.Native.Nat.{ℕ, _-_, _≤_, _<_}
 use mathlib.Core.Path.{_≡_, refl, sym, _∙_, ap}
-use mathlib.Core.List.{List, [], _∷_}
+use mathlib.Core.List.{List, _∷_}
 use mathlib.Core.Option.{Option, none, some}
 use native.Mathlib.Omega.{arith}
 use lib.ListN.{length}
-use Rattle.rules.specs.Base.{Outcome, ok, refused, Refusal, _>>=_}
+use Rattle.rules.specs.Base.{Outcome, ok, refused, Refusal, refuse, _>>=_, span, nowhere}
 use Rattle.rules.specs.Statements.{Stmt, Read, nextStatement, statementsAt, statements}
-use Rattle.rules.specs.Base.{refuse, span, nowhere}
 use Rattle.rules.specs.Tokens.{Token, lexed}
 use Rattle.rules.proofs.Walk.{verdict}
 use Rattle.lex_source.specs.declared.Lexed.{Lexed}
 use Rattle.lex_source.specs.declared.Lexed.the-variants.{Clean, Fault}
 use Rattle.lex_source.specs.Lexed.{meantLexed}
-use Rattle.rules.proofs.Following.{Goes, statement-goes, statements-on, statements-none, statements-refused}
+use Rattle.rules.proofs.Following.{statement-goes, statements-on, statements-none, statements-refused}
 use Rattle.parse.specs.declared.Statement.{Statement}
 use Rattle.parse.specs.declared.NextStatement.{NextStatement}
 use Rattle.parse.specs.declared.NextStatement.the-variants.{End, Refused}

@@ -1,19 +1,19 @@
 -- A statement by its first token: the code's reading is the rules'. Assumes nothing.
 use Prim.Native.Nat.{ℕ, zero, suc, _+_, _-_, _≤_, _<_}
 use mathlib.Core.Path.{_≡_, refl, sym, _∙_, ap}
-use mathlib.Core.Bool.{Bool, true, false, _&&_, _||_, not}
-use mathlib.Core.List.{List, [], _∷_, map}
-use mathlib.Core.Option.{Option, none, some}
+use mathlib.Core.Bool.{Bool, true, false, _&&_, not}
+use mathlib.Core.List.{List, [], map}
+use mathlib.Core.Option.{none}
 use native.Mathlib.Decide.{decLt}
 use native.Mathlib.Omega.{arith}
 use borrow.Author.Tests.{eq-eqb, ne-eqb}
 use lib.Dec.{eqb}
 use lib.ListN.{length, take, drop, getD, length-drop, drop-of-length-le}
 use lib.Seq.{take-all}
-use Rattle.rules.specs.Base.{if_then_else_, Outcome, ok, refused, refuse, _>>=_, span}
-use Rattle.rules.specs.Tokens.{Kind, Token, tokenIn, directive, word, upper, nextToken}
-use Rattle.rules.specs.Words.{Row, find, instructions, directives}
-use Rattle.rules.specs.Statements.{Name, Read, isMark, asWord, asDirective, need, pastLines, pastLabels, labelsAt, rowRead, instrRead, tokenRead, nextStatement}
+use Rattle.rules.specs.Base.{if_then_else_, ok, refuse, _>>=_, span}
+use Rattle.rules.specs.Tokens.{Kind, tokenIn, directive, word, upper, nextToken}
+use Rattle.rules.specs.Words.{instructions, directives}
+use Rattle.rules.specs.Statements.{Name, asWord, asDirective, need, labelsAt, instrRead, tokenRead, nextStatement}
 use Rattle.token.specs.Meant.{part, kindAt}
 use Rattle.lexeme.specs.declared.Lexeme.{Lexeme}
 use Rattle.lexeme.specs.Sorts.{nameOf, kindBy, noRow, Stands}

@@ -1,6 +1,6 @@
 -- In an accepted statement the label operand's field is known by what the statement does. Assumes nothing.
 use Prim.Native.Nat.{ℕ, _+_, _*_}
-use mathlib.Core.Path.{_≡_, refl, sym, _∙_, ap}
+use mathlib.Core.Path.{_≡_, refl, ap}
 use mathlib.Core.Bool.{Bool, true, false, _&&_}
 use mathlib.Core.List.{List, [], _∷_}
 use mathlib.Core.Logic.{_⊎_, inl, inr}
@@ -12,7 +12,8 @@ use Rattle.rules.specs.Base.{if_then_else_, same, Outcome, ok, refused, refuse,
 use Rattle.rules.specs.Tokens.{Num, Token, nextToken}
 use Rattle.rules.specs.Words.{Range, signed, unsigned, anyWord, Field, reg, regOrImm, num, near, name, string, Op, instr, orig, fill, blkw, stringz, end, external, Row, instructions, directives, find}
 use Rattle.rules.specs.Statements.{Name, Target, Piece, bits, target, chars, Given, bare, add, asRegister, asNumber, asLabel, asText, asWord, asDirective, isMark, fit, named, need, operand, ends, tokenIs, pastLines, pastLabels, labelsAt, operandAt, commaAt, moreFrom, operandsFrom, lineEnd, Read, read, stmt, rowRead, instrRead, tokenRead, nextStatement}
-use Rattle.rules.proofs.Following.{Gave, gave}
+use Rattle.rules.proofs.Following.{gave}
+use Rattle.lines.specs.Lines.{reachOf}
 
 -- the fields that a label may go to: offset9 or offset11 in an instruction, a word in .fill and .external, and none elsewhere
 abbrev pub Reached : Op → Range → Type 0
@@ -229,3 +230,18 @@ module _ (s : List ℕ) (i : ℕ) (x : Read) (t : Target) (e : nextStatement s i
 
   pub external-field : x .stmt .op ≡ external → t .field ≡ unsigned 16
   external-field q = known-target external q
+
+-- a statement whose label operand has no values has no label operand
+pub no-target : (s : List ℕ) (i : ℕ) (x : Read) → nextStatement s i ≡ ok (some x) → reachOf (x .stmt .target) ≡ 0 → x .stmt .target ≡ none
+no-target s i x e z = go (x .stmt .op) (x .stmt .target) (statement-known s i x e) z
+  where
+    go : (o : Op) (t : Option Target) → Holds (Reached o) t → reachOf t ≡ 0 → t ≡ none
+    go o none h z = refl
+    go instr (some t) (inl h) z = let y : t .field .modulus ≡ 512 = ap (λ (r : Range). r .modulus) h in absurd (omega arith)
+    go instr (some t) (inr h) z = let y : t .field .modulus ≡ 2048 = ap (λ (r : Range). r .modulus) h in absurd (omega arith)
+    go orig (some t) h z = absurd h
+    go fill (some t) h z = let y : t .field .modulus ≡ 65536 = ap (λ (r : Range). r .modulus) h in absurd (omega arith)
+    go blkw (some t) h z = absurd h
+    go stringz (some t) h z = absurd h
+    go end (some t) h z = absurd h
+    go external (some t) h z = let y : t .field .modulus ≡ 65536 = ap (λ (r : Range). r .modulus) h in absurd (omega arith)

@@ -1,19 +1,19 @@
 -- A statement by its row: the code's reading is the rules'. Assumes nothing.
-use Prim.Native.Nat.{ℕ, zero, suc, _+_, _≤_, _<_}
+use Prim.Native.Nat.{ℕ, _<_}
 use mathlib.Core.Path.{_≡_, refl, sym, _∙_, ap}
-use mathlib.Core.Bool.{Bool, true, false, _||_}
-use mathlib.Core.List.{List, [], _∷_}
-use mathlib.Core.Option.{Option, none, some}
+use mathlib.Core.Bool.{true, false, _||_}
+use mathlib.Core.List.{List, []}
+use mathlib.Core.Option.{some}
 use native.Mathlib.Decide.{decLt}
 use native.Mathlib.Omega.{arith}
 use borrow.Author.Tests.{eq-eqb, ne-eqb}
 use lib.Dec.{eqb}
 use lib.ListN.{getD}
 use Rattle.rules.specs.Base.{if_then_else_, Outcome, ok, refused, refuse, require, _>>=_, span}
-use Rattle.rules.specs.Tokens.{Kind, Token, tokenIn, nextToken}
-use Rattle.rules.specs.Words.{instr, orig, fill, blkw, stringz, end, external, instructions}
+use Rattle.rules.specs.Tokens.{Kind, tokenIn}
+use Rattle.rules.specs.Words.{end, instructions}
 use Rattle.rules.specs.Words as words
-use Rattle.rules.specs.Statements.{Name, isMark, ends, tokenIs, bare, operandsFrom, lineEnd, read, stmt, rowRead, instrRead}
+use Rattle.rules.specs.Statements.{Name, ends, tokenIs, bare, operandsFrom, lineEnd, read, stmt, rowRead, instrRead}
 use Rattle.rules.specs.Statements as rules
 use Rattle.rules.proofs.Ahead.{is-token, is-refused}
 use Rattle.lexeme.specs.declared.Lexeme.{Lexeme}
@@ -30,7 +30,7 @@ use Rattle.statement_rows.specs.Rows.{fieldsBy, opOf, rowAt, Means}
 use Rattle.statement_rows.proofs.Rule.{instruction-means}
 use Rattle.lines.specs.Lines.{codedGiven, codedStep, lineStep}
 use Rattle.parse.specs.declared.NextStatement.{NextStatement}
-use Rattle.parse.specs.declared.NextStatement.the-variants.{End, Refused}
+use Rattle.parse.specs.declared.NextStatement.the-variants.{Refused}
 use Rattle.parse.specs.declared.NextStatement.the-variants as next
 use Rattle.parse.specs.Coded.{codedOp, codedRead, codedStatement, unfitAt, made, ended, finished, after, rowStep, bareRow, nopStep}
 

@@ -1,5 +1,4 @@
 // Replays statement vectors against the statement reader, writes those that differ, and at the end how many were replayed.
-use lex_source::Lexed;
 use libc::STDOUT_FILENO;
 use parse::Statements;
 use std::num::wrapping_add_usize;
@@ -63,8 +62,9 @@ fn unhex(digits: &[u8], src: &mut [u8]) -> usize {
     n
 }
 
-fn statements_answer(answer: Statements) -> Answer {
-    match answer {
+// The first refusal of a source.
+fn answer_of(src: &[u8]) -> Answer {
+    match parse::check_source(src) {
         Statements::Accepted => Answer {
             number: 0,
             start: 0,
@@ -72,18 +72,6 @@ fn statements_answer(answer: Statements) -> Answer {
         },
         Statements::Refused { number, start, end } => Answer {
             number: two_wide(number),
-            start,
-            end,
-        },
-    }
-}
-
-// The first refusal of a source: the lexer's over the whole source, then that of its statements.
-fn answer_of(src: &[u8]) -> Answer {
-    match lex_source::first_refusal(src) {
-        Lexed::Clean => statements_answer(parse::first_refusal(src)),
-        Lexed::Fault { number, start, end } => Answer {
-            number: wide(number),
             start,
             end,
         },

@@ -27,6 +27,7 @@ use Rattle.labels.specs.declared.NextLabel.{NextLabel}
 use Rattle.parse.specs.Coded.{codedStatement, codedStatements, sourceStatements}
 use Rattle.parse.specs.declared.NextStatement.{NextStatement}
 use Rattle.parse.specs.declared.Statements.{Statements}
+use Rattle.parse.proofs.Reach as Reach
 use Rattle.parse.proofs.Unique as Parser
 use Rattle.reserved.specs.declared.Ident.{Ident}
 use Rattle.token.specs.Coded.{coded}
@@ -107,6 +108,10 @@ labels-end = Ahead.names-done
 -- A statement goes on from its place and not past the source, so that reading one after another ends.
 pub statement-goes-on : (s : List ℕ) (at : ℕ) (x : Read) → nextStatement s at ≡ ok (some x) → Goes s at x
 statement-goes-on = Following.statement-goes
+
+-- In an accepted statement a label operand goes to an offset9 or an offset11 of an instruction, or to the word of .fill or .external.
+pub label-operand-field : (s : List ℕ) (i : ℕ) (x : Read) → nextStatement s i ≡ ok (some x) → Reach.Holds (Reach.Reached (x .stmt .op)) (x .stmt .target)
+label-operand-field = Reach.statement-known
 
 -- Two answers that a contract allows are equal: `next_label`; `next_statement`; `first_refusal` (13 to 16); `check_source` (11, 12, 1 to 10, then 13 to 16).
 pub next-label-one-answer : (s : List ℕ) (at : ℕ) (r t : NextLabel) → r ≡ labelFrom s at → t ≡ labelFrom s at → r ≡ t

@@ -1,3 +1,4 @@
 -- Laws of the table of rows. Assumes nothing.
 pub mod Table
 pub mod Rule
+pub mod Unique

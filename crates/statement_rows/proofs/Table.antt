@@ -1,26 +1,20 @@
 -- The table of rows is the rules' table. Assumes nothing.
-use Prim.Native.Nat.{ℕ, zero, suc, _+_, _-_, _≤_, _<_}
-use mathlib.Core.Path.{_≡_, refl, sym, _∙_, ap}
+use Prim.Native.Nat.{ℕ, _+_, _-_}
+use mathlib.Core.Path.{_≡_, sym, _∙_}
 use mathlib.Core.Bool.{Bool, true, false}
-use mathlib.Core.List.{List, [], _∷_, _++_, map}
-use mathlib.Core.Option.{Option, none, some}
-use native.Mathlib.Nat.{not-suc-le-zero, le-of-suc-le-suc}
-use native.Mathlib.Omega.{arith}
-use borrow.Author.Tests.{eq-eqb, ne-eqb}
-use lib.Dec.{eqb}
-use lib.ListN.{length, getD}
-use Rattle.rules.specs.Base.{if_then_else_, same, bytes}
+use mathlib.Core.List.{List, [], _∷_, map}
+use borrow.Author.Tests.{ne-eqb}
+use lib.ListN.{getD}
+use Rattle.rules.specs.Base.{if_then_else_, same}
 use Rattle.rules.specs.Tokens.{upper}
-use Rattle.rules.specs.Words.{instructions, directives, find}
+use Rattle.rules.specs.Words.{directives}
 use Rattle.rules.specs.Words as words
-use Rattle.lexeme.specs.Sorts.{noRow}
 use Rattle.operands.specs.declared.Field.{Field}
 use Rattle.operands.specs.declared.Field.the-variants.{Text}
-use Rattle.operands.specs.Coded.{fieldOf}
 use Rattle.statement_rows.specs.declared.Op.{Op}
 use Rattle.statement_rows.specs.declared.Op.the-variants.{Instr}
 use Rattle.statement_rows.specs.declared.Row.{Row}
-use Rattle.statement_rows.specs.Rows.{table, cells, fieldAt, opAt, rowAt, opOf, fieldsBy, Means, codeFrom}
+use Rattle.statement_rows.specs.Rows.{cells, fieldAt, opAt, rowAt, codeFrom}
 
 pub field-rest : (k : ℕ) → (k ≡ 0 → ⊥) → (k ≡ 1 → ⊥) → (k ≡ 2 → ⊥) → (k ≡ 3 → ⊥) → (k ≡ 4 → ⊥) → (k ≡ 5 → ⊥) → (k ≡ 6 → ⊥) → (k ≡ 7 → ⊥) → (k ≡ 8 → ⊥) → (k ≡ 9 → ⊥) → Text ≡ fieldAt k
 unfolding fieldAt if_then_else_

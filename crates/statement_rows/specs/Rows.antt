@@ -1,12 +1,11 @@
 -- The table of rows as the code has it. Assumes nothing.
 use Prim.Native.Nat.{ℕ, zero, suc, _+_}
-use mathlib.Core.Bool.{Bool, true, false}
-use mathlib.Core.List.{List, [], _∷_, _++_, map}
+use mathlib.Core.List.{List, [], _∷_}
 use mathlib.Core.Path.{_≡_}
 use lib.Dec.{eqb}
 use lib.ListN.{getD}
 use Rattle.rules.specs.Base.{if_then_else_, same}
-use Rattle.rules.specs.Words.{instr, orig, fill, blkw, stringz, end, external, instructions, directives}
+use Rattle.rules.specs.Words.{instr, orig, fill, blkw, stringz, end, external}
 use Rattle.rules.specs.Words as words
 use Rattle.operands.specs.declared.Field.{Field}
 use Rattle.operands.specs.declared.Field.the-variants.{Dr, Sr, RegOrImm, Offset6, Near9, Near11, Trap, Word, Name, Text}
