@@ -1,2 +1,3 @@
 pub mod Reversing
 pub mod Turns
+pub mod Moved
