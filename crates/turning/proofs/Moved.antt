@@ -1,10 +1,10 @@
 -- What stands in a list after two neighbouring parts are exchanged. Assumes nothing.
 use Prim.Native.Nat.{ℕ, _+_, _-_, _≤_, _<_}
 use mathlib.Core.Path.{_≡_, ap, sym, _∙_}
-use mathlib.Core.List.{List, _++_}
+use mathlib.Core.List.{List, _++_, append-assoc}
 use native.Mathlib.Omega.{arith}
-use lib.ListN.{length, take, drop, getD, List·getD-append}
-use lib.Seq.{slice, length-take-le, length-slice, getD-append-add, getD-take, getD-drop}
+use lib.ListN.{length, take, drop, getD, length-append, List·getD-append}
+use lib.Seq.{slice, drop-at, length-take-le, length-slice, getD-append-add, getD-take, getD-drop}
 use Rattle.turning.specs.Turned.{turned}
 
 module _ (b : List ℕ) (lo mid hi : ℕ) (h : lo ≤ mid) (k : mid ≤ hi) (l : hi ≤ length b) where
@@ -41,3 +41,14 @@ module _ (b : List ℕ) (lo mid hi : ℕ) (h : lo ≤ mid) (k : mid ≤ hi) (l :
       ∙ List·getD-append (slice lo mid b) (drop hi b) 0 j (omega (arith, size-back))
       ∙ getD-drop lo (take mid b) j 0
       ∙ getD-take mid b (lo + j) 0 m
+
+  -- what stands behind both is as it was
+  pub get-rest : drop hi (turned lo mid hi b) ≡ drop hi b
+  unfolding turned
+  get-rest =
+      let e : turned lo mid hi b ≡ (take lo b ++ (slice mid hi b ++ slice lo mid b)) ++ drop hi b =
+      ap (λ (x : List ℕ). take lo b ++ x) (sym (append-assoc (slice mid hi b) (slice lo mid b) (drop hi b)))
+      ∙ sym (append-assoc (take lo b) (slice mid hi b ++ slice lo mid b) (drop hi b)) in
+      let n : length (take lo b ++ (slice mid hi b ++ slice lo mid b)) ≡ hi =
+      omega (arith, length-append (take lo b) (slice mid hi b ++ slice lo mid b), length-append (slice mid hi b) (slice lo mid b), size-low, size-back, size-front) in
+      ap (drop hi) e ∙ drop-at (take lo b ++ (slice mid hi b ++ slice lo mid b)) (drop hi b) hi n
