@@ -15,7 +15,7 @@ use Rattle.tables.proofs.Read.{get-before, get-new, get-after}
 
 -- A TABLE WITH AN ENTRY BETWEEN
 
-tab-split : {A : Type 0} (a b : ℕ) (g : ℕ → A) → tab (a + b) g ≡ tab a g ++ tab b (λ i. g (a + i))
+pub tab-split : {A : Type 0} (a b : ℕ) (g : ℕ → A) → tab (a + b) g ≡ tab a g ++ tab b (λ i. g (a + i))
 tab-split zero b g =
     (let e : 0 + b ≡ b = omega arith in ap (λ (x : ℕ). tab x g) e)
     ∙ tab-ext b g (λ i. g (0 + i)) (λ i l. ap g (let e : i ≡ 0 + i = omega arith in e))

@@ -1,0 +1,5 @@
+pub mod Passing
+pub mod Places
+pub mod Inserted
+pub mod Placed
+pub mod Answers

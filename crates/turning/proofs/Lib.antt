@@ -1,0 +1,3 @@
+pub mod Reversing
+pub mod Turns
+pub mod Moved

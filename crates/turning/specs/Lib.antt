@@ -1,0 +1,2 @@
+-- What the contracts of `turning` cite. Assumes nothing.
+pub mod Turned
