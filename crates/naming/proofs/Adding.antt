@@ -84,14 +84,14 @@ pub going-start : (rs src : List ℕ) (at n a : ℕ) (p : Span) → NamesReady r
 going-start rs src at n a p v = record { same = refl; ready = v; long = refl }
 
 -- the label that is met
-record Met (s : List ℕ) (i b e j : ℕ) : Type 0 where
+pub record Met (s : List ℕ) (i b e j : ℕ) : Type 0 where
   pub named : nameAt s (pastLines s i) ≡ some (nameBetween s b e)
   pub rising : b ≤ e
   pub within : e ≤ length s
   pub small : e - b ≤ 64
   pub onward : j ≡ pastLabel s i
 
-met : (s : List ℕ) (i : ℕ) (x : NextLabel) (b e j : ℕ) → x ≡ labelFrom s i → x ≡ Label b e j → Met s i b e j
+pub met : (s : List ℕ) (i : ℕ) (x : NextLabel) (b e j : ℕ) → x ≡ labelFrom s i → x ≡ Label b e j → Met s i b e j
 unfolding labelFrom labelled
 met s i x b e j h q = go (nameAt s (pastLines s i)) refl (sym h ∙ q)
   where
@@ -112,7 +112,7 @@ met s i x b e j h q = go (nameAt s (pastLines s i)) refl (sym h ∙ q)
           onward = sym k;
         }
 
-unmet : (s : List ℕ) (i : ℕ) (x : NextLabel) → x ≡ labelFrom s i → x ≡ Done → nameAt s (pastLines s i) ≡ none
+pub unmet : (s : List ℕ) (i : ℕ) (x : NextLabel) → x ≡ labelFrom s i → x ≡ Done → nameAt s (pastLines s i) ≡ none
 unfolding labelFrom labelled
 unmet s i x h q = go (nameAt s (pastLines s i)) refl (sym h ∙ q)
   where
