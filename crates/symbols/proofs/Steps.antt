@@ -104,6 +104,12 @@ held-no e = let z : _≡_ {A = ℕ} 0 1 = cc in absurd (omega arith)
 full-no : {A : Type 0} {m : ℕ} → Full ≡ Held m → A
 full-no e = let z : _≡_ {A = ℕ} 0 1 = cc in absurd (omega arith)
 
+kept-no : {A : Type 0} {k m : ℕ} → Held m ≡ Clash k → A
+kept-no e = let z : _≡_ {A = ℕ} 0 1 = cc in absurd (omega arith)
+
+clash-no : {A : Type 0} {k : ℕ} → Full ≡ Clash k → A
+clash-no e = let z : _≡_ {A = ℕ} 0 1 = cc in absurd (omega arith)
+
 module _ {rs src : List ℕ} {n a f s l k b : ℕ} {r : Slot} (v : Ready rs src n a f s l) (t : Slotted rs src n (nameFrom src s l) r) (e : r ≡ Taken k) (q : b ≡ getD rs (k * 4) 0) where
   found : look nameOrder (symbols n rs src) (nameFrom src s l) ≡ some (symbolRow rs src k .1)
   found = let u = t .taken k e in said rs src n k (nameFrom src s l) (v .table) (u .0) (u .1)
@@ -122,6 +128,7 @@ module _ {rs src : List ℕ} {n a f s l k b : ℕ} {r : Slot} (v : Ready rs src 
     rule = λ p. sym (by-look (labFrom a f) p (namedAt src s l) (symbols n rs src) ∙ (ap (chosen (labFrom a f) p (namedAt src s l) (symbols n rs src)) found
         ∙ pick _ true _ _ (eq-eqb _ _ (theirs ∙ (h ∙ sym own)))));
     table = λ m x. (let y : n ≡ m = cc in rw y at (v .table));
+    clash = λ m x. kept-no x;
   }
 
   pub add-clash : (b ≡ a → ⊥) → Adding rs src rs n a f s l (Clash k)
@@ -130,6 +137,7 @@ module _ {rs src : List ℕ} {n a f s l k b : ℕ} {r : Slot} (v : Ready rs src 
     rule = λ p. sym (by-look (labFrom a f) p (namedAt src s l) (symbols n rs src) ∙ (ap (chosen (labFrom a f) p (namedAt src s l) (symbols n rs src)) found
         ∙ pick _ false _ _ (ne-eqb _ _ (λ (z : addressOf (symbolRow rs src k .1 .lab) ≡ addressOf (labFrom a f)). h (sym theirs ∙ (z ∙ own))))));
     table = λ m x. held-no x;
+    clash = λ m x. (let y : k ≡ m = cc in (rw y at (t .taken k e .0), refl));
   }
 
 module _ {rs src : List ℕ} {n a f s l p : ℕ} {r : Slot} (t : Slotted rs src n (nameFrom src s l) r) (e : r ≡ Free p) where
@@ -140,6 +148,7 @@ module _ {rs src : List ℕ} {n a f s l p : ℕ} {r : Slot} (t : Slotted rs src 
         ∙ (ap (chosen (labFrom a f) q (namedAt src s l) (symbols n rs src)) (unsaid rs src n p (nameFrom src s l) t e)
         ∙ pick _ false _ _ (ap (λ (m : ℕ). ltb m 1024) (count n rs src) ∙ le-ltb n 1024 h)));
     table = λ m x. full-no x;
+    clash = λ m x. clash-no x;
   }
 
   pub add-new : {rs′ : List ℕ} → n < 1024 → Inserted rs src rs′ n a f s l → Adding rs src rs′ n a f s l (Held (n + 1))
@@ -149,4 +158,5 @@ module _ {rs src : List ℕ} {n a f s l p : ℕ} {r : Slot} (t : Slotted rs src 
         ∙ (ap (chosen (labFrom a f) q (namedAt src s l) (symbols n rs src)) (unsaid rs src n p (nameFrom src s l) t e)
         ∙ (pick _ true _ _ (ap (λ (m : ℕ). ltb m 1024) (count n rs src) ∙ lt-ltb n 1024 h) ∙ ap ok (sym (i .symbols)))));
     table = λ m x. (let y : n + 1 ≡ m = cc in rw y at (i .table));
+    clash = λ m x. kept-no x;
   }

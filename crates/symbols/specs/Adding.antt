@@ -35,6 +35,7 @@ pub record Ready (rs src : List ℕ) (n a f s l : ℕ) : Type 0 where
 pub record Adding (rs src rs′ : List ℕ) (n a f s l : ℕ) (r : Added) : Type 0 where
   pub rule : (p : Span) → outcome rs src rs′ s l p r ≡ addName (labFrom a f) p (namedAt src s l) (symbols n rs src)
   pub table : (m : ℕ) → r ≡ Held m → Growing rs′ src m
+  pub clash : (k : ℕ) → r ≡ Clash k → (k < n) × (rs′ ≡ rs)
 
 -- the symbol of a row
 abbrev pub found : (rs src : List ℕ) → Row → Option Symbol

@@ -1,0 +1,3 @@
+-- Laws that the proofs of `counter` cite. Assumes nothing.
+pub mod Rule
+pub mod Counting

@@ -1,0 +1,47 @@
+-- `counter::advance` meets its contract. Assumes nothing.
+use mathlib.Core.Path.{refl}
+use borrow.Author.Needs.{needs}
+use Rattle.counter.proofs.Counting.{step-none, step-on, step-27, step-26, step-outside}
+use Rattle.counter.proofs.advance.Statement.{statement}
+use Rattle.counter.proofs.advance.Tie as tie
+
+returns : tie.Need-returns
+returns c = step-none _ (c .before .before .pre .0) _ _ _ (c .before .if1 .taken) (c .if2 .taken)
+
+add-counter : tie.Need-add-counter
+add-counter c = search needs
+
+counted-requires : tie.Need-counted-requires
+counted-requires c κs = search needs
+
+returns-2 : tie.Need-returns-2
+returns-2 c = step-on _ (c .before .before .before .before .before .pre .0) _ _ _ (c .before .before .before .before .if1 .taken) (c .before .before .before .if2 .left) _ _ (c .counted .ensures) refl (c .before .if3 .taken)
+
+refused-requires : tie.Need-refused-requires
+refused-requires c κs = search needs
+
+returns-3 : tie.Need-returns-3
+returns-3 c = step-27 _ (c .before .before .before .before .before .before .pre .0) _ _ _ (c .before .before .before .before .before .if1 .taken) (c .before .before .before .before .if2 .left) _ _ (c .refused .ensures) refl (c .before .before .if3 .left) (c .before .if4 .taken)
+
+refused-requires-2 : tie.Need-refused-requires-2
+refused-requires-2 c κs = search needs
+
+returns-4 : tie.Need-returns-4
+returns-4 c = step-26 _ (c .before .before .before .before .before .before .pre .0) _ _ _ (c .before .before .before .before .before .if1 .taken) (c .before .before .before .before .if2 .left) _ _ (c .refused2 .ensures) refl (c .before .if4 .left)
+
+returns-5 : tie.Need-returns-5
+returns-5 c = step-outside _ (c .before .pre .0) _ _ _ (c .if1 .left)
+
+pub advance-spec : {M : Type 1} → statement M
+advance-spec =
+    tie.close
+    (tie.spec
+    returns
+    add-counter
+    counted-requires
+    returns-2
+    refused-requires
+    returns-3
+    refused-requires-2
+    returns-4
+    returns-5)

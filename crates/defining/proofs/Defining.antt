@@ -1,0 +1,102 @@
+-- What each way through `define_labels` shows. Assumes nothing.
+use mathlib.Core.Path.{_≡_, refl, sym, _∙_, ap}
+use mathlib.Core.Bool.{Bool, true, false}
+use mathlib.Core.Option.{Option, none, some}
+use mathlib.Core.List.{List, [], _∷_}
+use Prim.Native.Nat.{ℕ, _≤_, _<_}
+use native.Mathlib.Omega.{arith}
+use lib.ListN.{length}
+use Rattle.rules.specs.Base.{Outcome, ok, refuse, refuse2, _>>=_, Span, span}
+use Rattle.rules.specs.Tables.{Table}
+use Rattle.rules.specs.Objects as objects
+use Rattle.rules.specs.Statements.{Name, labelsAt, pastLabel}
+use Rattle.rules.specs.Passes.{Symbol, Cursor, One, one, addNames, labelled}
+use Rattle.rules.proofs.Ahead.{names-on, names-done}
+use Rattle.labels.specs.Walk.{labelFrom}
+use Rattle.labels.specs.declared.NextLabel.{NextLabel}
+use Rattle.labels.specs.declared.NextLabel.the-variants.{Label, Done}
+use Rattle.symbols.specs.Symbols.{symbols, Growing}
+use Rattle.counter.specs.declared.One as code
+use Rattle.counter.specs.declared.Stepped.{Stepped}
+use Rattle.counter.specs.declared.Stepped.the-variants as stepped
+use Rattle.counter.specs.State.{cursor, viewOne, told, Steady}
+use Rattle.naming.specs.declared.Naming.{Naming}
+use Rattle.naming.specs.declared.Naming.the-variants.{Held, Refused}
+use Rattle.naming.specs.Naming.{nameBetween, NamesReady, NamesAdded}
+use Rattle.naming.specs.Naming as naming
+use Rattle.naming.proofs.Adding.{Met, met, unmet}
+use Rattle.defining.specs.Tables.{withLabels, stepOf, Lent, Kept, Stepping}
+
+-- THE RULE, case by case
+labelled-none : (p : Span) (o : One) → labelled [] p o ≡ ok o
+unfolding labelled
+labelled-none p o = refl
+
+labelled-outside : (m : Name) (ms : List Name) (p : Span) (x : Table objects.Name Symbol) (y : Table ℕ objects.Name) (b w : ℕ) → labelled (m ∷ ms) p (one none x y b w) ≡ refuse 20 (m .place)
+unfolding labelled
+labelled-outside m ms p x y b w = refl
+
+labelled-inside : (ls : List Name) (p : Span) (c : Cursor) (x : Table objects.Name Symbol) (y : Table ℕ objects.Name) (b w : ℕ) → labelled ls p (one (some c) x y b w) ≡ (addNames (c .counter) p ls x >>= λ ss. ok (one (some c) ss y b w))
+unfolding labelled addNames
+labelled-inside [] p c x y b w = refl
+labelled-inside (m ∷ ms) p c x y b w = refl
+
+-- AN ANSWER AS A STEP
+module _ (o : code.One) (z : Naming) where
+  pub step-held : (m : ℕ) (o′ : code.One) → z ≡ Held m → o′ ≡ withLabels o m → stepped.Went o′ ≡ stepOf o z
+  step-held m o′ q e = rw (q, e)
+
+  pub step-refused : (n a e b d : ℕ) → z ≡ Refused n a e b d → stepped.Refused n a e b d ≡ stepOf o z
+  step-refused n a e b d q = rw q
+
+module _ (rs src : List ℕ) (o : code.One) (h : Lent rs src o) where
+  pub names-ready : NamesReady rs src (o .labels) (o .counter)
+  names-ready = record { table = h .table; room = h .room; size = h .size; address = h .steady .address }
+
+  module _ (at st en : ℕ) where
+    abbrev Rule : One → Outcome One
+    Rule v = labelled (labelsAt src at) (span st en) v
+
+    -- IN A BLOCK
+    module _ (i : o .inside ≡ true) (rs′ : List ℕ) (l : length rs′ ≡ length rs) (z : Naming) (k : NamesAdded rs src rs′ at (o .labels) (o .counter) (span st en) z) where
+      went-on : (y : ℕ → Table ℕ objects.Name) (u : Naming) → told (λ n. symbols n rs′ src) y (stepOf o u) ≡ (naming.told rs′ src u >>= λ ss. ok (one (some (cursor (o .start) (o .counter) (span (o .«orig_start») (o .«orig_end»)))) ss (y (o .relocations)) (o .blocks) (o .words)))
+      went-on y (Held m) = rw i
+      went-on y (Refused n a e b d) = refl
+
+      viewed : (y : ℕ → Table ℕ objects.Name) → Rule (viewOne (λ n. symbols n rs src) y o) ≡ Rule (one (some (cursor (o .start) (o .counter) (span (o .«orig_start») (o .«orig_end»)))) (symbols (o .labels) rs src) (y (o .relocations)) (o .blocks) (o .words))
+      viewed y = rw i
+
+      steady-with : (m : ℕ) → Steady (withLabels o m)
+      steady-with m = record { rising = h .steady .rising; address = h .steady .address; few = h .steady .few; sum = h .steady .sum }
+
+      kept-by : (u : Naming) → z ≡ u → (o′ : code.One) → stepOf o u ≡ stepped.Went o′ → Kept rs′ src o o′
+      kept-by (Held m) q o′ e =
+          let w : withLabels o m ≡ o′ = cc in
+          let v : Kept rs′ src o (withLabels o m) = record { lent = record { steady = steady-with m; table = k .table m q; room = omega (arith, h .room, l); size = h .size }; relocations = refl } in
+          rw w at v
+      kept-by (Refused n a e′ b d) q o′ e = let w : _≡_ {A = ℕ} 0 1 = cc in absurd (omega arith)
+
+      pub define-inside : (r : Stepped) → r ≡ stepOf o z → Stepping rs src rs′ o Rule r
+      define-inside r q = rw q (record {
+        rule = λ y. went-on y z
+            ∙ (ap (λ (t : Outcome (Table objects.Name Symbol)). t >>= λ ss. ok (one (some (cursor (o .start) (o .counter) (span (o .«orig_start») (o .«orig_end»)))) ss (y (o .relocations)) (o .blocks) (o .words))) (k .rule)
+            ∙ (sym (labelled-inside (labelsAt src at) (span st en) _ _ _ _ _) ∙ sym (viewed y)));
+        kept = kept-by z refl;
+      })
+
+    -- OUTSIDE
+    module _ (i : o .inside ≡ false) (x : NextLabel) (f : x ≡ labelFrom src at) where
+      pub define-outside : (b e j : ℕ) → x ≡ Label b e j → (r : Stepped) → r ≡ stepped.Refused 20 b e 0 0 → Stepping rs src rs o Rule r
+      define-outside b e j q r u =
+          let m = met src at x b e j f q in
+          let n = names-on src at (nameBetween src b e) (m .named) in
+          rw u (record {
+            rule = λ y. sym (ap (λ (ls : List Name). labelled ls (span st en) (viewOne (λ k. symbols k rs src) y o)) n ∙ rw i (labelled-outside (nameBetween src b e) (labelsAt src (pastLabel src at)) (span st en) _ _ _ _));
+            kept = λ o′ z. (let w : _≡_ {A = ℕ} 0 1 = cc in absurd (omega arith));
+          })
+
+      pub define-none : x ≡ Done → Stepping rs src rs o Rule (stepped.Went o)
+      define-none q = record {
+        rule = λ y. sym (ap (λ (ls : List Name). labelled ls (span st en) (viewOne (λ k. symbols k rs src) y o)) (names-done src at (unmet src at x f q)) ∙ labelled-none (span st en) _);
+        kept = λ o′ z. (let w : o ≡ o′ = cc in record { lent = rw w at h; relocations = ap (λ (u : code.One). u .relocations) (sym w) });
+      }

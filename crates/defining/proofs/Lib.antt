@@ -1,0 +1,2 @@
+-- Laws that the proofs of `defining` cite. Assumes nothing.
+pub mod Defining

@@ -1,0 +1,3 @@
+-- Laws that the proofs of `naming` cite. Assumes nothing.
+pub mod Texts
+pub mod Adding

@@ -1,0 +1,2 @@
+-- What the contracts of `naming` cite beside the rules. Assumes nothing.
+pub mod Naming
