@@ -1,4 +1,4 @@
--- What each way through `define_labels` shows. Assumes nothing.
+-- What each way through `define_labels` and `add_external` shows. Assumes nothing.
 use mathlib.Core.Path.{_≡_, refl, sym, _∙_, ap}
 use mathlib.Core.Bool.{Bool, true, false}
 use mathlib.Core.Option.{Option, none, some}
@@ -8,9 +8,11 @@ use native.Mathlib.Omega.{arith}
 use lib.ListN.{length}
 use Rattle.rules.specs.Base.{Outcome, ok, refuse, refuse2, _>>=_, Span, span}
 use Rattle.rules.specs.Tables.{Table}
+use Rattle.rules.specs.Objects.{outer}
 use Rattle.rules.specs.Objects as objects
-use Rattle.rules.specs.Statements.{Name, labelsAt, pastLabel}
-use Rattle.rules.specs.Passes.{Symbol, Cursor, One, one, addNames, labelled}
+use Rattle.rules.specs.Words.{external}
+use Rattle.rules.specs.Statements.{Name, Stmt, Target, labelsAt, pastLabel}
+use Rattle.rules.specs.Passes.{Symbol, Cursor, One, one, addName, addNames, labelled, directed}
 use Rattle.rules.proofs.Ahead.{names-on, names-done}
 use Rattle.labels.specs.Walk.{labelFrom}
 use Rattle.labels.specs.declared.NextLabel.{NextLabel}
@@ -19,10 +21,10 @@ use Rattle.symbols.specs.Symbols.{symbols, Growing}
 use Rattle.counter.specs.declared.One as code
 use Rattle.counter.specs.declared.Stepped.{Stepped}
 use Rattle.counter.specs.declared.Stepped.the-variants as stepped
-use Rattle.counter.specs.State.{cursor, viewOne, told, Steady}
+use Rattle.counter.specs.State.{cursor, cursorOf, viewOne, told, Steady}
 use Rattle.naming.specs.declared.Naming.{Naming}
 use Rattle.naming.specs.declared.Naming.the-variants.{Held, Refused}
-use Rattle.naming.specs.Naming.{nameBetween, NamesReady, NamesAdded}
+use Rattle.naming.specs.Naming.{nameBetween, NameAdded, NamesReady, NamesAdded}
 use Rattle.naming.specs.Naming as naming
 use Rattle.naming.proofs.Adding.{Met, met, unmet}
 use Rattle.defining.specs.Tables.{withLabels, stepOf, Lent, Kept, Stepping}
@@ -41,6 +43,14 @@ unfolding labelled addNames
 labelled-inside [] p c x y b w = refl
 labelled-inside (m ∷ ms) p c x y b w = refl
 
+external-rule : (s : Stmt) (t : Target) (v : One) → s .target ≡ some t → directed external s v ≡ (addName outer (s .place) (t .name) (v .symbols) >>= λ ss. ok (one (v .cursor) ss (v .relocs) (v .blocks) (v .words)))
+unfolding directed
+external-rule s t v e = go (s .target) e
+  where
+    go : (x : Option Target) → x ≡ some t → _≡_ {A = Outcome One} (elim x [ none ↦ ok v | some u ↦ (addName outer (s .place) (u .name) (v .symbols) >>= λ ss. ok (one (v .cursor) ss (v .relocs) (v .blocks) (v .words))) ]) (addName outer (s .place) (t .name) (v .symbols) >>= λ ss. ok (one (v .cursor) ss (v .relocs) (v .blocks) (v .words)))
+    go none q = let z : _≡_ {A = ℕ} 0 1 = cc in absurd (omega arith)
+    go (some u) q = let w : u ≡ t = cc in rw w
+
 -- AN ANSWER AS A STEP
 module _ (o : code.One) (z : Naming) where
   pub step-held : (m : ℕ) (o′ : code.One) → z ≡ Held m → o′ ≡ withLabels o m → stepped.Went o′ ≡ stepOf o z
@@ -53,35 +63,47 @@ module _ (rs src : List ℕ) (o : code.One) (h : Lent rs src o) where
   pub names-ready : NamesReady rs src (o .labels) (o .counter)
   names-ready = record { table = h .table; room = h .room; size = h .size; address = h .steady .address }
 
+  -- names added to the symbols of a state
+  module _ (rs′ : List ℕ) (l : length rs′ ≡ length rs) (z : Naming) (g : (m : ℕ) → z ≡ Held m → Growing rs′ src m) where
+    went-on : (y : ℕ → Table ℕ objects.Name) (u : Naming) → told (λ n. symbols n rs′ src) y (stepOf o u) ≡ (naming.told rs′ src u >>= λ ss. ok (one (cursorOf (o .inside) (cursor (o .start) (o .counter) (span (o .«orig_start») (o .«orig_end»)))) ss (y (o .relocations)) (o .blocks) (o .words)))
+    went-on y (Held m) = refl
+    went-on y (Refused n a e b d) = refl
+
+    steady-with : (m : ℕ) → Steady (withLabels o m)
+    steady-with m = record { rising = h .steady .rising; address = h .steady .address; few = h .steady .few; sum = h .steady .sum }
+
+    kept-by : (u : Naming) → z ≡ u → (o′ : code.One) → stepOf o u ≡ stepped.Went o′ → Kept rs′ src o o′
+    kept-by (Held m) q o′ e =
+        let w : withLabels o m ≡ o′ = cc in
+        let v : Kept rs′ src o (withLabels o m) = record { lent = record { steady = steady-with m; table = g m q; room = omega (arith, h .room, l); size = h .size }; relocations = refl } in
+        rw w at v
+    kept-by (Refused n a e′ b d) q o′ e = let w : _≡_ {A = ℕ} 0 1 = cc in absurd (omega arith)
+
+  -- AN EXTERNAL
+  module _ (b e st en : ℕ) where
+    pub define-external : (rs′ : List ℕ) → length rs′ ≡ length rs → (z : Naming) → NameAdded rs src rs′ (o .labels) 0 1 b e (span st en) z → (r : Stepped) → r ≡ stepOf o z → (s : Stmt) (t : Target) → s .target ≡ some t → t .name ≡ nameBetween src b e → s .place ≡ span st en → Stepping rs src rs′ o (λ v. directed external s v) r
+    define-external rs′ l z k r q s t f n p = rw q (record {
+      rule = λ y. went-on rs′ l z (k .table) y z
+          ∙ (ap (λ (u : Outcome (Table objects.Name Symbol)). u >>= λ ss. ok (one (cursorOf (o .inside) (cursor (o .start) (o .counter) (span (o .«orig_start») (o .«orig_end»)))) ss (y (o .relocations)) (o .blocks) (o .words))) (rw (← n, ← p) at (k .rule))
+          ∙ sym (external-rule s t (viewOne (λ m. symbols m rs src) y o) f));
+      kept = kept-by rs′ l z (k .table) z refl;
+    })
+
   module _ (at st en : ℕ) where
     abbrev Rule : One → Outcome One
     Rule v = labelled (labelsAt src at) (span st en) v
 
     -- IN A BLOCK
     module _ (i : o .inside ≡ true) (rs′ : List ℕ) (l : length rs′ ≡ length rs) (z : Naming) (k : NamesAdded rs src rs′ at (o .labels) (o .counter) (span st en) z) where
-      went-on : (y : ℕ → Table ℕ objects.Name) (u : Naming) → told (λ n. symbols n rs′ src) y (stepOf o u) ≡ (naming.told rs′ src u >>= λ ss. ok (one (some (cursor (o .start) (o .counter) (span (o .«orig_start») (o .«orig_end»)))) ss (y (o .relocations)) (o .blocks) (o .words)))
-      went-on y (Held m) = rw i
-      went-on y (Refused n a e b d) = refl
-
       viewed : (y : ℕ → Table ℕ objects.Name) → Rule (viewOne (λ n. symbols n rs src) y o) ≡ Rule (one (some (cursor (o .start) (o .counter) (span (o .«orig_start») (o .«orig_end»)))) (symbols (o .labels) rs src) (y (o .relocations)) (o .blocks) (o .words))
       viewed y = rw i
 
-      steady-with : (m : ℕ) → Steady (withLabels o m)
-      steady-with m = record { rising = h .steady .rising; address = h .steady .address; few = h .steady .few; sum = h .steady .sum }
-
-      kept-by : (u : Naming) → z ≡ u → (o′ : code.One) → stepOf o u ≡ stepped.Went o′ → Kept rs′ src o o′
-      kept-by (Held m) q o′ e =
-          let w : withLabels o m ≡ o′ = cc in
-          let v : Kept rs′ src o (withLabels o m) = record { lent = record { steady = steady-with m; table = k .table m q; room = omega (arith, h .room, l); size = h .size }; relocations = refl } in
-          rw w at v
-      kept-by (Refused n a e′ b d) q o′ e = let w : _≡_ {A = ℕ} 0 1 = cc in absurd (omega arith)
-
       pub define-inside : (r : Stepped) → r ≡ stepOf o z → Stepping rs src rs′ o Rule r
       define-inside r q = rw q (record {
-        rule = λ y. went-on y z
+        rule = λ y. went-on rs′ l z (k .table) y z ∙ ap (λ (t : Bool). naming.told rs′ src z >>= λ ss. ok (one (cursorOf t (cursor (o .start) (o .counter) (span (o .«orig_start») (o .«orig_end»)))) ss (y (o .relocations)) (o .blocks) (o .words))) i
             ∙ (ap (λ (t : Outcome (Table objects.Name Symbol)). t >>= λ ss. ok (one (some (cursor (o .start) (o .counter) (span (o .«orig_start») (o .«orig_end»)))) ss (y (o .relocations)) (o .blocks) (o .words))) (k .rule)
             ∙ (sym (labelled-inside (labelsAt src at) (span st en) _ _ _ _ _) ∙ sym (viewed y)));
-        kept = kept-by z refl;
+        kept = kept-by rs′ l z (k .table) z refl;
       })
 
     -- OUTSIDE

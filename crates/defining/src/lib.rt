@@ -1,13 +1,16 @@
-// Pass one at the labels before a statement: each is defined at the counter.
+// Pass one at names: the labels before a statement, each defined at the counter, and an .external.
 use counter::One;
 use counter::Stepped;
 use labels::NextLabel;
 use naming::Naming;
 ghost use mathlib.Core.Path.{_≡_};
+ghost use mathlib.Core.Option.{some};
 ghost use Rattle.rules.specs.Base.{span};
-ghost use Rattle.rules.specs.Statements.{labelsAt};
-ghost use Rattle.rules.specs.Passes.{labelled};
-ghost use Rattle.defining.specs.Tables.{withLabels, stepOf, Lent, Stepping};
+ghost use Rattle.rules.specs.Words.{external};
+ghost use Rattle.rules.specs.Statements.{Stmt, Target, labelsAt};
+ghost use Rattle.rules.specs.Passes.{labelled, directed};
+ghost use Rattle.naming.specs.Naming.{nameBetween};
+ghost use Rattle.defining.specs.Tables.{withLabels, stepOf, Between, Lent, Stepping};
 
 // The state with so many rows of symbols.
 pub fn with_labels(o: One, labels: usize) -> One
@@ -74,4 +77,22 @@ pub fn define_labels(
         } => counter::refused(20, from, to),
         NextLabel::Done => Stepped::Went(o),
     }
+}
+
+// .external of the name between two places, a statement from `start` up to `end`.
+pub fn add_external(
+    src: &[u8],
+    rows: &mut [u32],
+    o: One,
+    from: usize,
+    to: usize,
+    start: usize,
+    end: usize,
+) -> Stepped
+    requires { ⌜ Lent (now rows) (now src) o × Between (now src) from to ⌝ }
+    ensures { λ r. ⌜ ((s : Stmt) (t : Target) → s .target ≡ some t → t .name ≡ nameBetween (now (src .entry)) from to → s .place ≡ span start end → Stepping (now (rows .entry)) (now (src .entry)) (now (rows .exit)) o (λ v. directed external s v) r) ⌝ }
+{
+    let n = o.labels;
+    let answer = naming::add_name(src, rows, n, 0, 1, from, to, start, end);
+    step_of(o, answer)
 }
