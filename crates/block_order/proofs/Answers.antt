@@ -3,15 +3,16 @@ use Prim.Native.Nat.{ℕ, suc, _+_, _-_, _*_, _≤_, _<_}
 use mathlib.Core.Path.{_≡_, refl, ap, sym, _∙_, subst}
 use mathlib.Core.Bool.{Bool, true, false}
 use mathlib.Core.List.{List}
+use native.Mathlib.Decide.{decLt}
 use native.Mathlib.Omega.{arith}
 use lib.ListN.{length, getD, drop}
 use lib.Dec.{leb}
 use borrow.Author.Tests.{le-leb, lt-leb}
 use Rattle.rules.specs.Base.{if_then_else_, Outcome, ok, refuse2, Span, span}
 use Rattle.rules.specs.Passes.{Placed, place, overlapping}
-use Rattle.rules.specs.Buffers.{headRow, sumOf}
+use Rattle.rules.specs.Buffers.{headRow, sumOf, WordRow}
 use Rattle.turning.specs.Turned.{turned}
-use Rattle.turning.proofs.Moved.{get-rest}
+use Rattle.turning.proofs.Moved.{get-low, get-front, get-back, get-rest}
 use Rattle.block_order.specs.Rows.{origRow, viewPlaced, rowIn}
 use Rattle.block_order.specs.Spots.{ClashAt, FreeAt, Spotted}
 use Rattle.block_order.specs.declared.Spot.{Spot}
@@ -56,6 +57,26 @@ clashes bs os ws ms n used a s o₁ o₂ k r c e =
       kept = λ q. absurd (clash-not os k o₁ o₂ (sym e ∙ q));
     }
 
+-- the index from which a turn takes what stands at i
+from-where : (ws ms : List ℕ) (lo mid hi : ℕ) → lo ≤ mid → mid ≤ hi → hi ≤ length ws → hi ≤ length ms → ((i : ℕ) → i < hi → WordRow ws ms i)
+    → (i : ℕ) → i < hi → WordRow (turned lo mid hi ws) (turned lo mid hi ms) i
+from-where ws ms lo mid hi h k lw lm c i l = elim (decLt i lo) [
+  | yes y ↦ same-row i i (get-low ws lo mid hi h k lw i y) (get-low ms lo mid hi h k lm i y) (c i l)
+  | no y ↦ elim (decLt i (lo + (hi - mid))) [
+    | yes z ↦ (let e : i ≡ lo + (i - lo) = omega arith in
+        let q : mid + (i - lo) < hi = omega arith in
+        rw e (same-row (lo + (i - lo)) (mid + (i - lo)) (get-front ws lo mid hi h k lw (i - lo) q) (get-front ms lo mid hi h k lm (i - lo) q) (c (mid + (i - lo)) q)))
+    | no z ↦ (let e : i ≡ lo + (hi - mid + (i - lo - (hi - mid))) = omega arith in
+        let q : lo + (i - lo - (hi - mid)) < mid = omega arith in
+        let p : lo + (i - lo - (hi - mid)) < hi = omega arith in
+        rw e (same-row (lo + (hi - mid + (i - lo - (hi - mid)))) (lo + (i - lo - (hi - mid))) (get-back ws lo mid hi h k lw (i - lo - (hi - mid)) q) (get-back ms lo mid hi h k lm (i - lo - (hi - mid)) q) (c (lo + (i - lo - (hi - mid))) p)))
+  ]
+]
+  where
+    same-row : (i j : ℕ) → getD (turned lo mid hi ws) i 0 ≡ getD ws j 0 → getD (turned lo mid hi ms) i 0 ≡ getD ms j 0 → WordRow ws ms j
+        → WordRow (turned lo mid hi ws) (turned lo mid hi ms) i
+    same-row i j e f w = record { mark = omega (arith, w .mark); clear = λ z. e ∙ w .clear (sym f ∙ z) }
+
 -- the place that was found is one to insert at
 pub insert-at : (bs os ws ms : List ℕ) (n k at used a s : ℕ) → Ready bs os ws ms n used s → FreeAt bs n a s k at → InsertAt bs os ws ms n k at used s
 insert-at bs os ws ms n k at used a s r f =
@@ -76,6 +97,7 @@ places bs os ws ms bs′ os′ ws′ ms′ n used a s o₁ o₂ k at r f i =
         origs = ap (drop (n * 2 + 2)) (i .origs) ∙ row-rest os n k o₁ o₂ (f .within) (r .room-origs);
         words = ap (drop used) w ∙ get-rest ws (sumOf (headRow bs) k) (used - s) used low (omega arith) (r .words);
         marks = ap (drop used) m ∙ get-rest ms (sumOf (headRow bs) k) (used - s) used low (omega arith) (r .marks);
+        clean = λ old j l. subst (λ (x : List ℕ). WordRow x ms′ j) (sym w) (subst (λ (y : List ℕ). WordRow (turned (sumOf (headRow bs) k) (used - s) used ws) y j) (sym m) (from-where ws ms (sumOf (headRow bs) k) (used - s) used low (omega arith) (r .words) (r .marks) old j l));
       };
     }
 

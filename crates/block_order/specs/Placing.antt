@@ -6,7 +6,7 @@ use lib.ListN.{length, getD, drop}
 use lib.Dec.{leb}
 use Rattle.rules.specs.Base.{if_then_else_, Outcome, ok, refuse2, Span, span}
 use Rattle.rules.specs.Passes.{Placed, placed, place}
-use Rattle.rules.specs.Buffers.{headRow, sumOf}
+use Rattle.rules.specs.Buffers.{headRow, sumOf, WordRow}
 use Rattle.turning.specs.Turned.{turned}
 use Rattle.block_order.specs.Rows.{cellsAt, viewPlaced, rowIn}
 use Rattle.block_order.specs.declared.Placing.{Placing}
@@ -45,13 +45,14 @@ abbrev pub outcome : ℕ → (bs os ws ms : List ℕ) → Placing → Outcome (L
 outcome n bs os ws ms P.Placed = ok (viewPlaced (n + 1) bs os ws ms)
 outcome n bs os ws ms (P.Overlaps a b c d) = refuse2 28 (span a b) (span c d)
 
--- the rows' words are the used part again, and what is not in use is as it was
+-- the rows' words are the used part again, each beside its mark as before, and what is not in use is as it was
 pub record Kept (bs os ws ms bs′ os′ ws′ ms′ : List ℕ) (n used : ℕ) : Type 0 where
   pub sum : sumOf (headRow bs′) (n + 1) ≡ used
   pub blocks : drop (n * 2 + 2) bs′ ≡ drop (n * 2 + 2) bs
   pub origs : drop (n * 2 + 2) os′ ≡ drop (n * 2 + 2) os
   pub words : drop used ws′ ≡ drop used ws
   pub marks : drop used ms′ ≡ drop used ms
+  pub clean : ((i : ℕ) → i < used → WordRow ws ms i) → (i : ℕ) → i < used → WordRow ws′ ms′ i
 
 pub record PlacedAs (bs os ws ms bs′ os′ ws′ ms′ : List ℕ) (n used a size o₁ o₂ : ℕ) (r : Placing) : Type 0 where
   pub rule : outcome n bs′ os′ ws′ ms′ r ≡ place (placed a (cellsAt ws ms (used - size) size) (span o₁ o₂)) (viewPlaced n bs os ws ms)
