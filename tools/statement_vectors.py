@@ -3,8 +3,8 @@
 
 usage: statement_vectors.py ORACLE > vectors
 
-ORACLE is a program that assembles each NAME.asm of a folder with the crate lc3-ensemble under the library's capacities and
-writes NAME.exp (`ORACLE batch DIR --lib --spans`): a listing, or `REFUSED number start end start end`.
+ORACLE is a program that answers each NAME.asm of a folder with the crate lc3-ensemble's lexer, passes and link and with a statement
+reader written from document 01, reports on standard error where the crate's parser does otherwise (run it by hand to see that), and writes NAME.exp (`ORACLE batch DIR --lib --spans`): a listing, or `REFUSED number start end start end`.
 Each line of the output: the source in hexadecimal (`-` if it is empty), then the number, start and end of the refusal among
 1 to 16, or 0 0 0 where the answer is another.
 """
