@@ -23,12 +23,6 @@ abbrev pub stepOf : One → Naming → Stepped
 stepOf o (Held n) = stepped.Went (withLabels o n)
 stepOf o (Refused n a e b d) = stepped.Refused n a e b d
 
--- a name's place in the source, at most 64 bytes long
-pub record Between (src : List ℕ) (b e : ℕ) : Type 0 where
-  pub rising : b ≤ e
-  pub within : e ≤ length src
-  pub small : e - b ≤ 64
-
 -- the symbols of a state, in rows over a source that fits
 pub record Lent (rs src : List ℕ) (o : One) : Type 0 where
   pub steady : Steady o

@@ -9,8 +9,8 @@ ghost use Rattle.rules.specs.Base.{span};
 ghost use Rattle.rules.specs.Words.{external};
 ghost use Rattle.rules.specs.Statements.{Stmt, Target, labelsAt};
 ghost use Rattle.rules.specs.Passes.{labelled, directed};
-ghost use Rattle.naming.specs.Naming.{nameBetween};
-ghost use Rattle.defining.specs.Tables.{withLabels, stepOf, Between, Lent, Stepping};
+ghost use Rattle.naming.specs.Naming.{nameBetween, Between};
+ghost use Rattle.defining.specs.Tables.{withLabels, stepOf, Lent, Stepping};
 
 // The state with so many rows of symbols.
 pub fn with_labels(o: One, labels: usize) -> One

@@ -18,6 +18,12 @@ use Rattle.naming.specs.declared.Naming.the-variants.{Held, Refused}
 abbrev pub nameBetween : List ℕ → ℕ → ℕ → S.Name
 nameBetween src b e = record { text = nameFrom src b (e - b); place = span b e }
 
+-- a name's place in the source, at most 64 bytes long
+pub record Between (src : List ℕ) (b e : ℕ) : Type 0 where
+  pub rising : b ≤ e
+  pub within : e ≤ length src
+  pub small : e - b ≤ 64
+
 -- what an answer stands for, with the rows afterwards
 abbrev pub told : (rs′ src : List ℕ) → Naming → Outcome (Table Name Symbol)
 told rs′ src (Held m) = ok (symbols m rs′ src)

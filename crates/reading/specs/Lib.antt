@@ -1,0 +1,2 @@
+-- What the contracts of `reading` cite beside the rules. Assumes nothing.
+pub mod Reading
