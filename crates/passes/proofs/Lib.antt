@@ -1,0 +1,2 @@
+-- Laws of the two passes. Assumes nothing.
+pub mod Steps
