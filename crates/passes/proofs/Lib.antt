@@ -1,2 +1,3 @@
 -- Laws of the two passes. Assumes nothing.
 pub mod Steps
+pub mod Alongside
