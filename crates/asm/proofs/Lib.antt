@@ -1,0 +1,2 @@
+-- The proofs of `asm`. Assumes nothing.
+pub mod Blocks

@@ -1,0 +1,1 @@
+// Assembling: any source to an object in lent buffers, or one refusal.
