@@ -78,7 +78,7 @@ same-refl o = record { cursor = refl; blocks = refl; words = refl }
 given-ok : {o c : One} → ok o ≡ ok c → o ≡ c
 given-ok e = cc
 
-labels-same : (ls : List S.Name) (p : Span) (o c : One) → labelled ls p o ≡ ok c → Same o c
+pub labels-same : (ls : List S.Name) (p : Span) (o c : One) → labelled ls p o ≡ ok c → Same o c
 unfolding labelled
 labels-same [] p o c e = rw (← given-ok e) (same-refl o)
 labels-same (n ∷ ns) p o c e = go (o .cursor) refl e
@@ -267,7 +267,12 @@ does orig s o a b c m e g = begins-through s o a b c m (orig-begins s a b e) (go
 does end s o a b c m e g = ends-through o a b c m (end-ends s a b e) (goes-none b c g)
 
 pub record Step (s : Stmt) (ss : List Stmt) (o f : One) : Type 0 where
+  pub named : One
+  pub told : One
   pub next : One
+  pub labels : labelled (s .labels) (s .place) o ≡ ok named
+  pub directs : directed (s .op) s named ≡ ok told
+  pub advances : advanced (sizeOf (s .op) s) (s .place) told ≡ ok next
   pub does : Does (s .op) s o next
   pub rest : passOne ss next ≡ ok f
 
@@ -278,7 +283,12 @@ step s ss o f e =
     let v = gave (directed (s .op) s (u .given′)) _ f (u .then′) in
     let w = gave (advanced (sizeOf (s .op) s) (s .place) (v .given′)) _ f (v .then′) in
     record {
+      named = u .given′;
+      told = v .given′;
       next = w .given′;
+      labels = u .first;
+      directs = v .first;
+      advances = w .first;
       does = does (s .op) s o (u .given′) (v .given′) (w .given′) (labels-same (s .labels) (s .place) o (u .given′) (u .first)) (v .first) (advanced-goes (sizeOf (s .op) s) (s .place) (v .given′) (w .given′) (w .first));
       rest = w .then′;
     }
