@@ -2,3 +2,4 @@
 pub mod Steps
 pub mod Alongside
 pub mod Known
+pub mod Names
