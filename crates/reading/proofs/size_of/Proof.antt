@@ -1,0 +1,70 @@
+-- `reading::size_of` meets its contract. Assumes nothing.
+use borrow.Author.Needs.{needs}
+use Rattle.reading.proofs.Sizes.{size-instr, size-fill, size-blkw, size-stringz, size-orig, size-end, size-external}
+use Rattle.reading.proofs.size_of.Statement.{statement}
+use Rattle.reading.proofs.size_of.Tie as tie
+
+enum-told : tie.Need-enum-told
+enum-told c = search needs
+
+enum-told-2 : tie.Need-enum-told-2
+enum-told-2 c = search needs
+
+enum-told-3 : tie.Need-enum-told-3
+enum-told-3 c = search needs
+
+enum-told-4 : tie.Need-enum-told-4
+enum-told-4 c = search needs
+
+string-words-requires : tie.Need-string-words-requires
+string-words-requires c κs = search needs
+
+enum-told-5 : tie.Need-enum-told-5
+enum-told-5 c = search needs
+
+enum-told-6 : tie.Need-enum-told-6
+enum-told-6 c = search needs
+
+enum-told-7 : tie.Need-enum-told-7
+enum-told-7 c = search needs
+
+returns : tie.Need-returns
+returns c = size-instr _ _ (c .enum-told .given .1)
+
+returns-2 : tie.Need-returns-2
+returns-2 c = size-fill _ _ (c .enum-told2 .given .1)
+
+returns-3 : tie.Need-returns-3
+returns-3 c = size-blkw _ _ (c .enum-told3 .given .1) (c .before .before .before .pre .1)
+
+returns-4 : tie.Need-returns-4
+returns-4 c = size-stringz _ _ (c .before .enum-told4 .given .1) _ (c .string-words .ensures .0) (c .string-words .ensures .1)
+
+returns-5 : tie.Need-returns-5
+returns-5 c = size-orig _ _ (c .enum-told5 .given .1)
+
+returns-6 : tie.Need-returns-6
+returns-6 c = size-end _ _ (c .enum-told6 .given .1)
+
+returns-7 : tie.Need-returns-7
+returns-7 c = size-external _ _ (c .enum-told7 .given .1)
+
+pub size-of-spec : {M : Type 1} → statement M
+size-of-spec =
+    tie.close
+    (tie.spec
+    enum-told
+    enum-told-2
+    enum-told-3
+    enum-told-4
+    string-words-requires
+    enum-told-5
+    enum-told-6
+    enum-told-7
+    returns
+    returns-2
+    returns-3
+    returns-4
+    returns-5
+    returns-6
+    returns-7)
