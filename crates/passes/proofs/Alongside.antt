@@ -85,6 +85,11 @@ words-size ss a instr s ws e = go (s .target) e
         rw (← q)
 
 -- PLACING
+-- some block passes
+abbrev pub Any : (Placed → Type 0) → List Placed → Type 0
+Any P [] = ⊥
+Any P (x ∷ xs) = P x ⊎ Any P xs
+
 never-overlaps : (p q : Span) (ys : List Placed) → overlapping p q ≡ ok ys → ⊥
 unfolding overlapping if_then_else_
 never-overlaps p q ys e = go (leb (p .start) (q .start)) e
@@ -108,9 +113,10 @@ pub record Put (x : Placed) (xs ys : List Placed) : Type 1 where
   pub sum : total ys ≡ total xs + length (x .words)
   pub apart : (b : ℕ) → b ≤ x .start → 0 < length (x .words) → stop x ≤ 0xfe00 → Apart b xs → Apart b ys
   pub all : (P : Placed → Type 0) → P x → All P xs → All P ys
+  pub any : (P : Placed → Type 0) → P x ⊎ Any P xs → Any P ys
 
 put-first : (x : Placed) → Put x [] (x ∷ [])
-put-first x = record { count = refl; sum = omega arith; apart = λ b l f m h. ((l, (f, m)), tt); all = λ P p h. (p, tt) }
+put-first x = record { count = refl; sum = omega arith; apart = λ b l f m h. ((l, (f, m)), tt); all = λ P p h. (p, tt); any = λ P h. h }
 
 module _ (x y : Placed) (xs : List Placed) (c : overlap (x .start) (length (x .words)) (y .start) (length (y .words)) ≡ false) where
   put-before : x .start < y .start → Put x (y ∷ xs) (x ∷ y ∷ xs)
@@ -119,6 +125,7 @@ module _ (x y : Placed) (xs : List Placed) (c : overlap (x .start) (length (x .w
     sum = omega arith;
     apart = λ b l f m a. ((l, (f, m)), ((go (clear-of (x .start) (length (x .words)) (y .start) (length (y .words)) c) (a .0 .1 .0), a .0 .1), a .1));
     all = λ P p a. (p, a);
+    any = λ P a. a;
   }
     where
       go : (stop y ≤ x .start) ⊎ (stop x ≤ y .start) → 0 < length (y .words) → stop x ≤ y .start
@@ -131,8 +138,14 @@ module _ (x y : Placed) (xs : List Placed) (c : overlap (x .start) (length (x .w
     sum = omega (arith, i .sum);
     apart = λ b l f m a. (a .0, i .apart (stop y) (go (clear-of (x .start) (length (x .words)) (y .start) (length (y .words)) c) f) f m (a .1));
     all = λ P p a. (a .0, i .all P p (a .1));
+    any = λ P a. past P a;
   }
     where
+      past : (P : Placed → Type 0) → P x ⊎ (P y ⊎ Any P xs) → P y ⊎ Any P zs
+      past P (inl a) = inr (i .any P (inl a))
+      past P (inr (inl a)) = inl a
+      past P (inr (inr a)) = inr (i .any P (inr a))
+
       go : (stop y ≤ x .start) ⊎ (stop x ≤ y .start) → 0 < length (x .words) → stop y ≤ x .start
       go (inl l) f = l
       go (inr l) f = absurd (h (omega (arith, l, f)))

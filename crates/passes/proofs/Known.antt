@@ -11,7 +11,7 @@ use lib.ListN.{length}
 use borrow.Author.Tests.{ltb-true}
 use Rattle.rules.specs.Base.{if_then_else_, Outcome, ok, refused, refuse, refuse2, _>>=_, Span, has}
 use Rattle.rules.specs.Capacities.{blockRoom, labelRoom, relocRoom}
-use Rattle.rules.specs.Words.{Op, instr, orig, fill, blkw, stringz, end, external}
+use Rattle.rules.specs.Words.{field, Op, instr, orig, fill, blkw, stringz, end, external}
 use Rattle.rules.specs.Statements.{Stmt, Target}
 use Rattle.rules.specs.Statements as S
 use Rattle.rules.specs.Tables.{Table, Tri, less, same, more, Order, put, look, Sorted, insert, newer, natOrder, nameOrder}
@@ -132,11 +132,18 @@ pub record Kept (o : One) : Type 0 where
   pub known : (x : ℕ) (n : Name) → look natOrder (o .relocs) x ≡ some n → Outside (look nameOrder (o .symbols) n)
   pub counter : (k : Cursor) → o .cursor ≡ some k → k .counter < 65536
 
--- a statement with names that an object may have, and an address of two bytes
+-- each number is two bytes
+abbrev pub Low : List ℕ → Type 0
+Low [] = Unit {0}
+Low (c ∷ cs) = (c < 65536) × Low cs
+
+-- a statement with names that an object may have, and words of two bytes
 pub record Sound (s : Stmt) : Type 0 where
   pub labels : Names (s .labels)
   pub target : (t : Target) → s .target ≡ some t → goodName (t .name .text) ≡ true
   pub bits : s .bits < 65536
+  pub offset : (t : Target) → s .target ≡ some t → (d : ℕ) → s .bits + field (t .field) d < 65536
+  pub chars : Low (s .chars)
 
 pub kept-start : Kept (one none [] [] 0 0)
 kept-start = record {
