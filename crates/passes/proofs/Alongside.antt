@@ -290,10 +290,13 @@ written-along y end s q o c t u a g e = end-along s o c t u a g e
 written-along y external s q o c t u a g e = external-along s o c t u a g e
 
 -- pass two goes on as pass one went on
+pub along-next : (y : Table Name Symbol) (s : Stmt) (ss : List Stmt) (o f : One) (t u : Two) → Alongside o t → (e : passOne (s ∷ ss) o ≡ ok f) → written y (s .op) s t ≡ ok u → Alongside (step s ss o f e .next) u
+along-next y s ss o f t u a e w = let v = step s ss o f e in written-along y (s .op) s refl o (v .next) t u a (v .does) w
+
 pub along-step : (y : Table Name Symbol) (s : Stmt) (ss : List Stmt) (o f : One) (t u : Two) → Alongside o t → passOne (s ∷ ss) o ≡ ok f → written y (s .op) s t ≡ ok u → Onward ss f u
 along-step y s ss o f t u a e w =
     let v = step s ss o f e in
-    record { one = v .next; rest = v .rest; along = written-along y (s .op) s refl o (v .next) t u a (v .does) w }
+    record { one = v .next; rest = v .rest; along = along-next y s ss o f t u a e w }
 
 does-as : (s : Stmt) (o c : One) (p : Op) → s .op ≡ p → Does (s .op) s o c → Does p s o c
 does-as s o c p q d = subst (λ (x : Op). Does x s o c) q d

@@ -399,6 +399,14 @@ kept-step s ss o f h g v =
       grew = c .grew;
     }
 
+-- what is said once the labels are in stays
+pub named-grew : (s : Stmt) (ss : List Stmt) (o f : One) → Kept o → Sound s → (v : Step s ss o f) → Grew (v .named .symbols) (v .next .symbols)
+named-grew s ss o f h g v =
+    let a = labels-onward (s .labels) (s .place) o (v .named) h (g .labels) (v .labels) in
+    let b = directed-tables (s .op) s (v .named) (v .told) (a .kept) g (v .directs) in
+    let q = advanced-still (sizeOf (s .op) s) (s .place) (v .told) (v .next) (v .advances) in
+    still-tables (v .named) (v .told) (v .next) b (record { symbols = q .0; relocs = q .1 }) .grew
+
 abbrev pub AllSound : List Stmt → Type 0
 AllSound [] = Unit {0}
 AllSound (s ∷ ss) = Sound s × AllSound ss

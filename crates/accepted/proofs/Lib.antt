@@ -1,0 +1,3 @@
+-- What assembling accepts is a good object. Assumes nothing.
+pub mod Relocations
+pub mod Cells
