@@ -272,12 +272,14 @@ pub record Finished (f : One) (u : Two) : Type 0 where
   pub along : Alongside f u
   pub kept : Kept f
   pub fine : Fine f u
+  pub outside : f .cursor ≡ none
 
 pub fine-all : (ss : List Stmt) (o f : One) (t u : Two) → Alongside o t → Kept o → Fine o t → AllSound ss → passOne ss o ≡ ok f → passTwo (f .symbols) ss t ≡ ok u → Finished f u
 unfolding passTwo
 fine-all [] o f t u a k h g e w =
     let q : t ≡ u = cc in
-    rw (← q, ← ended o f e .1) (record { along = a; kept = k; fine = h })
+    let z = ended o f e in
+    rw (← q, ← z .1) (record { along = a; kept = k; fine = h; outside = z .0 })
 fine-all (s ∷ ss) o f t u a k h g e w =
     let v = step s ss o f e in
     let x = gave (written (f .symbols) (s .op) s t) _ u w in

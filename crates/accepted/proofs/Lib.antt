@@ -1,3 +1,4 @@
 -- What assembling accepts is a good object. Assumes nothing.
 pub mod Relocations
 pub mod Cells
+pub mod Objects
