@@ -69,14 +69,14 @@ module _ (y : Table Name Symbol) (k : SymbolsOk y) where
       by-symbol none x = let z : _≡_ {A = ℕ} 0 1 = cc in absurd (omega arith)
       by-symbol (some s) x = by-lab (s .lab) x
 
-  words-low : (a : ℕ) (p : Op) (s : Stmt) (ws : List Cell) → Sound s → wordsOf y a p s ≡ ok ws → LowCells ws
+  words-low : (a : ℕ) (p : Op) (s : Stmt) (ws : List Cell) → s .op ≡ p → Sound s → wordsOf y a p s ≡ ok ws → LowCells ws
   unfolding wordsOf
-  words-low a orig s ws g e = let q : [] ≡ ws = cc in rw (← q) tt
-  words-low a end s ws g e = let q : [] ≡ ws = cc in rw (← q) tt
-  words-low a external s ws g e = let q : [] ≡ ws = cc in rw (← q) tt
-  words-low a blkw s ws g e = let q : replicate (s .bits) unset ≡ ws = cc in rw (← q) (low-unset (s .bits))
-  words-low a stringz s ws g e = let q : map word (s .chars ++ 0 ∷ []) ≡ ws = cc in rw (← q) (low-text (s .chars) (g .chars))
-  words-low a fill s ws g e = go (s .target) e
+  words-low a orig s ws i g e = let q : [] ≡ ws = cc in rw (← q) tt
+  words-low a end s ws i g e = let q : [] ≡ ws = cc in rw (← q) tt
+  words-low a external s ws i g e = let q : [] ≡ ws = cc in rw (← q) tt
+  words-low a blkw s ws i g e = let q : replicate (s .bits) unset ≡ ws = cc in rw (← q) (low-unset (s .bits))
+  words-low a stringz s ws i g e = let q : map word (s .chars ++ 0 ∷ []) ≡ ws = cc in rw (← q) (low-text (s .chars) (g .chars i))
+  words-low a fill s ws i g e = go (s .target) e
     where
       go : (t : Option Target) → _≡_ {A = Outcome (List Cell)} (elim t [ none ↦ ok (word (s .bits) ∷ []) | some t ↦ address y (t .name) >>= λ n. ok (word n ∷ []) ]) (ok ws) → LowCells ws
       go none x = let q : word (s .bits) ∷ [] ≡ ws = cc in rw (← q) (g .bits, tt)
@@ -84,7 +84,7 @@ module _ (y : Table Name Symbol) (k : SymbolsOk y) where
           let u = gave (address y (t .name)) _ ws x in
           let q : word (u .given′) ∷ [] ≡ ws = cc (u .then′) in
           rw (← q) (address-low (t .name) (u .given′) (u .first), tt)
-  words-low a instr s ws g e = go (s .target) refl e
+  words-low a instr s ws j g e = go (s .target) refl e
     where
       go : (t : Option Target) → s .target ≡ t → _≡_ {A = Outcome (List Cell)} (elim t [ none ↦ ok (word (s .bits) ∷ []) | some t ↦ offsetTo y (a + 1) t >>= λ n. ok (word (s .bits + n) ∷ []) ]) (ok ws) → LowCells ws
       go none i x = let q : word (s .bits) ∷ [] ≡ ws = cc in rw (← q) (g .bits, tt)
@@ -161,7 +161,7 @@ module _ (y : Table Name Symbol) (k : SymbolsOk y) (s : Stmt) (g : Sound s) (t u
       go (some b) q x =
           let v = gave (wordsOf y (b .start + length (b .words)) (s .op) s) _ u x in
           let i : two (some (placed (b .start) (b .words ++ v .given′) (b .place))) (t .blocks) ≡ u = cc (v .then′) in
-          let l = words-low y k (b .start + length (b .words)) (s .op) s (v .given′) g (v .first) in
+          let l = words-low y k (b .start + length (b .words)) (s .op) s (v .given′) refl g (v .first) in
           rw (← i) (record {
             low-open = λ h c z. rw (← same-some z) (low-append (b .words) (v .given′) (h b q) l);
             low = λ h m. m;

@@ -2,3 +2,4 @@
 pub mod Relocations
 pub mod Cells
 pub mod Objects
+pub mod Statements

@@ -143,7 +143,7 @@ pub record Sound (s : Stmt) : Type 0 where
   pub target : (t : Target) → s .target ≡ some t → goodName (t .name .text) ≡ true
   pub bits : s .bits < 65536
   pub offset : (t : Target) → s .target ≡ some t → (d : ℕ) → s .bits + field (t .field) d < 65536
-  pub chars : Low (s .chars)
+  pub chars : s .op ≡ stringz → Low (s .chars)
 
 pub kept-start : Kept (one none [] [] 0 0)
 kept-start = record {

@@ -25,7 +25,7 @@ use Rattle.reading.proofs.Taken.{Taken, Stands, operands-taken, string-
 use Rattle.reading.proofs.Accepted.{Accepted, token-accepted}
 
 -- what is shown of the rules' statement by its reading
-record Known (s : List ℕ) (ls : List Name) (n : ℕ) (x : Stmt) : Type 0 where
+pub record Known (s : List ℕ) (ls : List Name) (n : ℕ) (x : Stmt) : Type 0 where
   pub labels : x .labels ≡ ls
   pub low : x .bits + (reachOf (x .target) - 1) < 65536
   pub stands : Stands s (x .target)
@@ -59,7 +59,7 @@ module _ (s : List ℕ) where
         within = line-on (g .stop) (x .next) (a .ended);
       })
 
-  statement-known : (i : ℕ) (x : Read) → nextStatement s i ≡ ok (some x) → Known s (labelsAt s i) (x .next) (x .stmt)
+  pub statement-known : (i : ℕ) (x : Read) → nextStatement s i ≡ ok (some x) → Known s (labelsAt s i) (x .next) (x .stmt)
   unfolding nextStatement
   statement-known i x e =
       let u = gave (nextToken s (pastLines s (pastLabels s i))) _ (some x) e in
