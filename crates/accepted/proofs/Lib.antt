@@ -3,3 +3,4 @@ pub mod Relocations
 pub mod Cells
 pub mod Objects
 pub mod Statements
+pub mod Accepted

@@ -134,7 +134,7 @@ module _ (s : List ℕ) (h : Low s) where
   all-sound ss e = all-from (length s - 0 + 1) 0 ss e
 
 -- BYTES: those of a source that is lexed are ASCII
-ascii-low : (i : ℕ) (s : List ℕ) → ascii i s ≡ ok tt → Low s
+pub ascii-low : (i : ℕ) (s : List ℕ) → ascii i s ≡ ok tt → Low s
 unfolding ascii
 ascii-low i [] e = tt
 ascii-low i (c ∷ s) e = go (ltb c 128) refl e (ascii-low (i + 1) s)
