@@ -34,18 +34,18 @@ was-read (ok none) st e = let z : _≡_ {A = ℕ} 0 1 = cc in absurd (omega arit
 was-read (ok (some x)) st e = record { read = x; is = refl; coded = cc }
 was-read (refused r) st e = let z : _≡_ {A = ℕ} 0 1 = cc in absurd (omega arith)
 
-was-end : (o : Outcome (Option Read)) → codedStatement o ≡ End → o ≡ ok none
+pub was-end : (o : Outcome (Option Read)) → codedStatement o ≡ End → o ≡ ok none
 unfolding codedStatement
 was-end (ok none) e = refl
 was-end (ok (some x)) e = let z : _≡_ {A = ℕ} 0 1 = cc in absurd (omega arith)
 was-end (refused r) e = let z : _≡_ {A = ℕ} 0 1 = cc in absurd (omega arith)
 
-record WasRefused (o : Outcome (Option Read)) (n a e : ℕ) : Type 0 where
+pub record WasRefused (o : Outcome (Option Read)) (n a e : ℕ) : Type 0 where
   pub refusal : Refusal
   pub is : o ≡ refused refusal
   pub coded : all.Refused (refusal .number) (refusal .first .start) (refusal .first .stop) ≡ all.Refused n a e
 
-was-refused : (o : Outcome (Option Read)) (n a e : ℕ) → codedStatement o ≡ Refused n a e → WasRefused o n a e
+pub was-refused : (o : Outcome (Option Read)) (n a e : ℕ) → codedStatement o ≡ Refused n a e → WasRefused o n a e
 unfolding codedStatement
 was-refused (ok none) n a e h = let z : _≡_ {A = ℕ} 0 1 = cc in absurd (omega arith)
 was-refused (ok (some x)) n a e h = let z : _≡_ {A = ℕ} 0 1 = cc in absurd (omega arith)

@@ -14,17 +14,41 @@ Inv-loop src at class i₀ i = runEnd class src i ≡ runEnd class src at
 abbrev μ-loop : tie.MeasureT-loop
 μ-loop src at class i₀ i = length src - i
 
+loop-holds : tie.Need-loop-holds Inv-loop μ-loop
+loop-holds c = refl
+
+shared-slice-read-in-class : tie.Need-shared-slice-read-in-class Inv-loop μ-loop
+shared-slice-read-in-class c = search needs
+
+in-class-requires : tie.Need-in-class-requires Inv-loop μ-loop
+in-class-requires c κs = search needs
+
+add-i : tie.Need-add-i Inv-loop μ-loop
+add-i c = search needs
+
+loop-less : tie.Need-loop-less Inv-loop μ-loop
+loop-less c = search needs
+
+loop-again : tie.Need-loop-again Inv-loop μ-loop
+loop-again c = search (needs, run-again)
+
+returns : tie.Need-returns Inv-loop μ-loop
+returns c = run-stop _ _ (c .before .before .before .loop-test .taken) (c .before .in-class .ensures) (c .if1 .left) (c .before .before .before .before .loop .inv)
+
+returns-2 : tie.Need-returns-2 Inv-loop μ-loop
+returns-2 c = run-over _ _ (c .loop-test .left) (c .before .loop .inv)
+
 pub run-end-spec : {M : Type 1} → statement M
 run-end-spec =
     tie.close
     (tie.spec
     Inv-loop
     μ-loop
-    (λ c. refl)
-    (λ c. search needs)
-    (λ c κs. search needs)
-    (λ c. search needs)
-    (λ c. search needs)
-    (λ c. search (needs, run-again))
-    (λ c. search (needs, run-stop))
-    (λ c. search (needs, run-over)))
+    loop-holds
+    shared-slice-read-in-class
+    in-class-requires
+    add-i
+    loop-less
+    loop-again
+    returns
+    returns-2)

@@ -1,0 +1,2 @@
+-- Laws that the proofs of `directing` cite. Assumes nothing.
+pub mod Directing

@@ -1,0 +1,2 @@
+-- Laws that the proofs of `filling` cite. Assumes nothing.
+pub mod Filling

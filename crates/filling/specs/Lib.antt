@@ -1,0 +1,2 @@
+-- What the contracts of `filling` cite beside the rules. Assumes nothing.
+pub mod Tables

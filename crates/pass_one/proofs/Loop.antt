@@ -1,0 +1,179 @@
+-- Pass one over statement after statement, as its loop goes. Assumes nothing.
+use mathlib.Core.Path.{_≡_, refl, sym, _∙_, ap}
+use mathlib.Core.Bool.{Bool, true, false}
+use mathlib.Core.List.{List, [], _∷_}
+use mathlib.Core.Option.{Option, none, some}
+use Prim.Native.Nat.{ℕ, _+_, _-_, _*_, _≤_, _<_}
+use native.Mathlib.Omega.{arith}
+use lib.ListN.{length}
+use Rattle.rules.specs.Base.{Outcome, ok, refused, refuse, refuse2, _>>=_, Span, span}
+use Rattle.rules.specs.Statements.{Stmt, Read, nextStatement, statementsAt, statements}
+use Rattle.rules.specs.Passes.{One, one, Cursor, Symbol, sizeOf, labelled, directed, advanced, passOne}
+use Rattle.rules.specs.Tables.{Table}
+use Rattle.rules.specs.Objects.{Name}
+use Rattle.rules.proofs.Following.{Gave, gave, statements-on, statements-none, statements-refused}
+use Rattle.symbols.specs.Symbols.{symbols, Growing}
+use Rattle.relocation_table.specs.Pending.{notes, Pending}
+use Rattle.parse.specs.declared.Statement.{Statement}
+use Rattle.parse.specs.declared.NextStatement.{NextStatement}
+use Rattle.parse.specs.declared.NextStatement.the-variants as next
+use Rattle.parse.specs.Coded.{codedRead, codedStatement}
+use Rattle.parse.proofs.All.{WasRead, was-read, was-end, was-refused}
+use Rattle.reading.specs.Reading.{Faithful}
+use Rattle.reading.proofs.Read.{faithful}
+use Rattle.counter.specs.declared.One as code
+use Rattle.counter.specs.declared.Stepped.{Stepped}
+use Rattle.counter.specs.declared.Stepped.the-variants.{Went, Refused}
+use Rattle.counter.specs.State.{cursor, viewOne, told, Steady}
+use Rattle.counter.specs.State as counting
+use Rattle.counter.proofs.Counting.{went, stuck}
+use Rattle.defining.specs.Tables.{Lent}
+use Rattle.filling.specs.Tables.{seen, Held, Stepping}
+use Rattle.directing.proofs.Directing.{over-none}
+use Rattle.pass_one.specs.Steps.{stepOn, stepOne, Stands, fresh, PassedOne}
+
+-- THE RULE, step by step
+chained : {A B C : Type 0} (x : Outcome A) (f : A → Outcome B) (g : B → Outcome C) → ((x >>= f) >>= g) ≡ (x >>= λ a. f a >>= g)
+chained (ok a) f g = refl
+chained (refused r) f g = refl
+
+pass-more : (s : Stmt) (ss : List Stmt) (v : One) → passOne (s ∷ ss) v ≡ (stepOne s v >>= passOne ss)
+unfolding passOne stepOne stepOn
+pass-more s ss v = sym (chained (labelled (s .labels) (s .place) v) (stepOn s) (passOne ss) ∙ ap (λ (f : One → Outcome One). labelled (s .labels) (s .place) v >>= f) (λ i a. chained (directed (s .op) s a) (λ b. advanced (sizeOf (s .op) s) (s .place) b) (passOne ss) i))
+
+pass-open : (c : Cursor) (x : Table Name Symbol) (y : Table ℕ Name) (b w : ℕ) → passOne [] (one (some c) x y b w) ≡ refuse 22 (c .place)
+unfolding passOne
+pass-open c x y b w = refl
+
+pass-shut : (x : Table Name Symbol) (y : Table ℕ Name) (b w : ℕ) → passOne [] (one none x y b w) ≡ ok (one none x y b w)
+unfolding passOne
+pass-shut x y b w = refl
+
+-- THE END OF THE SOURCE
+module _ (o : code.One) (h : Steady o) where
+  abbrev Finishing : (ℕ → Table Name Symbol) → (ℕ → Table ℕ Name) → Outcome One
+  Finishing x y = passOne [] (viewOne x y o)
+
+  pub finish-open : o .inside ≡ true → (r : Stepped) → r ≡ Refused 22 (o .«orig_start») (o .«orig_end») 0 0 → counting.Stepping o Finishing r
+  finish-open i r q = rw q (stuck o Finishing 22 (o .«orig_start») (o .«orig_end») 0 0 (λ x y. rw i (sym (pass-open _ _ _ _ _))))
+
+  pub finish-shut : o .inside ≡ false → counting.Stepping o Finishing (Went o)
+  finish-shut i = went o Finishing o (record { steady = h; labels = refl; relocations = refl }) (λ x y. rw i (sym (pass-shut _ _ _ _)))
+
+-- THE LOOP
+
+-- what is left of the statements, after those before a place
+pub record Left (rs qs src : List ℕ) (at : ℕ) (o : code.One) (ss : List Stmt) : Type 0 where
+  pub rest : List Stmt
+  pub is : statementsAt src at ≡ ok rest
+  pub same : passOne rest (seen rs qs src o) ≡ passOne ss (one none [] [] 0 0)
+
+-- tables of the length that they had
+pub record Going (rs₀ qs₀ rs qs src : List ℕ) (at : ℕ) (o : code.One) : Type 0 where
+  pub held : Held rs qs src o
+  pub long : length rs ≡ length rs₀
+  pub far : length qs ≡ length qs₀
+  pub left : (ss : List Stmt) → statements src ≡ ok ss → Left rs qs src at o ss
+
+module _ (rs qs src : List ℕ) (size : length src ≤ 262144) (room : 4096 ≤ length rs) (room2 : 4096 ≤ length qs) where
+  held-none : Held rs qs src fresh
+  held-none = record {
+    lent = record {
+      steady = record { rising = omega arith; address = omega arith; few = omega arith; sum = omega arith };
+      table = record { few = omega arith; room = omega arith; rows = λ k l. absurd (omega arith); up = record { next = λ k l. absurd (omega arith) } };
+      room = room;
+      size = size;
+    };
+    table = record { few = omega arith; room = omega arith; rows = λ k l. absurd (omega arith); up = record { next = λ k l. absurd (omega arith) } };
+    room = room2;
+  }
+
+  left-all : (ss : List Stmt) → statements src ≡ ok ss → Left rs qs src 0 fresh ss
+  unfolding statements symbols notes
+  left-all ss e = record { rest = ss; is = e; same = refl }
+
+  pub going-start : (o : code.One) → o ≡ fresh → Going rs qs rs qs src 0 o
+  going-start o e = rw e (record { held = held-none; long = refl; far = refl; left = left-all })
+
+module _ (rs₀ qs₀ rs qs src : List ℕ) (at : ℕ) (o : code.One) (g : Going rs₀ qs₀ rs qs src at o) (x : NextStatement) (h : x ≡ codedStatement (nextStatement src at)) where
+  -- a source whose statements are refused
+  pub going-stop : (n a e : ℕ) → x ≡ next.Refused n a e → (r : Stepped) → r ≡ Refused n a e 0 0 → PassedOne rs qs src r
+  going-stop n a e q r z = rw z (record {
+    rule = λ ss y. (
+        let w = was-refused (nextStatement src at) n a e (sym h ∙ q) in
+        let l = g .left ss y in
+        let m : ok (l .rest) ≡ refused (w .refusal) = sym (l .is) ∙ statements-refused src at (w .refusal) (w .is) in
+        let u : _≡_ {A = ℕ} 0 1 = cc in
+        absurd (omega arith));
+    kept = λ o′ y. (let u : _≡_ {A = ℕ} 0 1 = cc in absurd (omega arith));
+  })
+
+  -- the end
+  pub going-end : x ≡ next.End → (r : Stepped) → counting.Stepping o (λ x y. passOne [] (viewOne x y o)) r → PassedOne rs qs src r
+  going-end q r k =
+      let j = over-none rs qs src o (g .held) (λ v. passOne [] v) r k in
+      record {
+        rule = λ ss y. (
+            let l = g .left ss y in
+            let m : ok [] ≡ ok (l .rest) = sym (statements-none src at (was-end (nextStatement src at) (sym h ∙ q))) ∙ l .is in
+            let n : _≡_ {A = List Stmt} [] (l .rest) = cc in
+            j .rule ∙ (ap (λ (t : List Stmt). passOne t (seen rs qs src o)) n ∙ l .same));
+        kept = j .kept;
+      }
+
+  -- a statement
+  module _ (st : Statement) (q : x ≡ next.Read st) where
+    it : WasRead (nextStatement src at) st
+    it = was-read (nextStatement src at) st (sym h ∙ q)
+
+    nexts : it .read .next ≡ st .next
+    unfolding codedRead
+    nexts = ap (λ (y : Statement). y .next) (it .coded)
+
+    true-to : Faithful src at st (it .read .stmt)
+    true-to = faithful src at (it .read) st (it .is) (it .coded)
+
+    pub going-stands : Stands src st
+    going-stands = record { at = at; stmt = it .read .stmt; faithful = true-to }
+
+    module _ (rs′ qs′ : List ℕ) (a : Stepped) (k : (s : Stmt) → Faithful src at st s → Stepping rs qs src rs′ qs′ o (stepOne s) a) where
+      step : Stepping rs qs src rs′ qs′ o (stepOne (it .read .stmt)) a
+      step = k (it .read .stmt) true-to
+
+      -- what is left after it
+      record After (ss : List Stmt) : Type 0 where
+        rest : List Stmt
+        is : statementsAt src (st .next) ≡ ok rest
+        same : (told (λ n. symbols n rs′ src) (λ n. notes n qs′ src) a >>= passOne rest) ≡ passOne ss (one none [] [] 0 0)
+
+      after : (ss : List Stmt) → statements src ≡ ok ss → After ss
+      after ss y =
+          let l = g .left ss y in
+          let w = gave (statementsAt src (it .read .next)) (λ ts. ok (it .read .stmt ∷ ts)) (l .rest) (sym (statements-on src at (it .read) (it .is)) ∙ l .is) in
+          let m : it .read .stmt ∷ w .given′ ≡ l .rest = cc (w .then′) in
+          record {
+            rest = w .given′;
+            is = ap (λ (i : ℕ). statementsAt src i) (sym nexts) ∙ w .first;
+            same = ap (λ (t : Outcome One). t >>= passOne (w .given′)) (step .rule)
+                ∙ (sym (pass-more (it .read .stmt) (w .given′) (seen rs qs src o))
+                ∙ (ap (λ (t : List Stmt). passOne t (seen rs qs src o)) m ∙ l .same));
+          }
+
+      pub going-on : (b : code.One) → a ≡ Went b → length rs′ ≡ length rs → length qs′ ≡ length qs → Going rs₀ qs₀ rs′ qs′ src (st .next) b
+      going-on b z m n = record {
+        held = step .kept b z;
+        long = m ∙ g .long;
+        far = n ∙ g .far;
+        left = λ ss y. (
+            let w = after ss y in
+            record { rest = w .rest; is = w .is; same = sym (ap (λ (t : Stepped). told (λ n. symbols n rs′ src) (λ n. notes n qs′ src) t >>= passOne (w .rest)) z) ∙ w .same });
+      }
+
+      pub going-refused : (n c d e l : ℕ) → a ≡ Refused n c d e l → PassedOne rs′ qs′ src a
+      going-refused n c d e l z = record {
+        rule = λ ss y. (
+            let w = after ss y in
+            ap (told (λ n. symbols n rs′ src) (λ n. notes n qs′ src)) z
+            ∙ (sym (ap (λ (t : Stepped). told (λ n. symbols n rs′ src) (λ n. notes n qs′ src) t >>= passOne (w .rest)) z) ∙ w .same));
+        kept = step .kept;
+      }

@@ -1,0 +1,17 @@
+-- `pass_one::finish` meets its contract. Assumes nothing.
+use borrow.Author.Needs.{needs}
+use Rattle.pass_one.proofs.Loop.{finish-open, finish-shut}
+use Rattle.pass_one.proofs.finish.Statement.{statement}
+use Rattle.pass_one.proofs.finish.Tie as tie
+
+refused-requires : tie.Need-refused-requires
+refused-requires c κs = search needs
+
+returns : tie.Need-returns
+returns c = finish-open _ (c .before .before .pre) (c .before .if1 .taken) _ (c .refused .ensures)
+
+returns-2 : tie.Need-returns-2
+returns-2 c = finish-shut _ (c .before .pre) (c .if1 .left)
+
+pub finish-spec : {M : Type 1} → statement M
+finish-spec = tie.close (tie.spec refused-requires returns returns-2)
