@@ -1,13 +1,16 @@
 -- A number's reading, one character on, as the loop meets it. Assumes nothing.
 use Prim.Native.Nat.{ℕ, _+_, _*_, _<_, _≤_}
 use mathlib.Core.Path.{_≡_, sym, _∙_}
-use mathlib.Core.Bool.{Bool, true, false}
+use mathlib.Core.Bool.{Bool, true, false, _&&_}
 use mathlib.Core.List.{List}
 use native.Mathlib.Nat.{mul-le-mul}
-use borrow.Author.Tests.{lt-ltb, le-ltb, le-leb, lt-leb}
+use native.Mathlib.Omega.{arith}
+use borrow.Author.Tests.{lt-ltb, le-leb, lt-leb, ltb-true, ltb-false}
+use lib.Dec.{ltb}
 use lib.ListN.{length, getD}
 use Rattle.rules.specs.Base.{if_then_else_}
 use Rattle.rules.specs.Tokens.{wordy, value}
+use Rattle.rules.proofs.Bools.{and-left, and-right}
 use Rattle.text.specs.Runs.{from}
 use Rattle.text.proofs.Rest.{from-step, from-end}
 use Rattle.literals.specs.Numbers.{stopped, numberFrom}
@@ -26,13 +29,24 @@ module _ (base bound at n : ℕ) (s : List ℕ) {i v : ℕ} {z : Reading} (h : i
   unfolding numberFrom if_then_else_
   ends-met b w t r = r ∙ sym (rw (from-step s i h, ← e, le-leb _ _ b, ← w, t)) ∙ g
 
-  pub over-met : v < base → bound < n * base + v → Over i ≡ z
-  unfolding numberFrom if_then_else_
-  over-met b o = sym (rw (from-step s i h, ← e, lt-leb _ _ b, lt-ltb _ _ o)) ∙ g
+  module _ {t : Bool} (o : t ≡ (ltb v base && ltb bound (n * base + v))) where
+    pub over-met : t ≡ true → Over i ≡ z
+    unfolding numberFrom if_then_else_
+    over-met q =
+        let b = ltb-true v base (and-left (ltb v base) (ltb bound (n * base + v)) (sym o ∙ q)) in
+        sym (rw (from-step s i h, ← e, lt-leb _ _ b, and-right (ltb v base) (ltb bound (n * base + v)) (sym o ∙ q))) ∙ g
 
-  pub number-again : v < base → n * base + v ≤ bound → numberFrom base bound at (i + 1) (n * base + v) (from s (i + 1)) ≡ z
-  unfolding numberFrom if_then_else_
-  number-again b o = sym (rw (from-step s i h, ← e, lt-leb _ _ b, le-ltb _ _ o)) ∙ g
+    pub number-again : t ≡ false → v < base → numberFrom base bound at (i + 1) (n * base + v) (from s (i + 1)) ≡ z
+    unfolding numberFrom if_then_else_
+    number-again q b =
+        let k : ltb bound (n * base + v) ≡ false = rw (lt-ltb _ _ b) at (sym o ∙ q) in
+        sym (rw (from-step s i h, ← e, lt-leb _ _ b, k)) ∙ g
+
+    -- a digit that is none too many keeps the number small
+    pub number-small : t ≡ false → v < base → bound ≤ 65535 → n * base + v ≤ 65535
+    number-small q b m =
+        let k : ltb bound (n * base + v) ≡ false = rw (lt-ltb _ _ b) at (sym o ∙ q) in
+        omega (arith, ltb-false bound (n * base + v) k)
 
 pub number-done : (base bound at n : ℕ) (s : List ℕ) {i : ℕ} {r z : Reading} → length s ≤ i → numberFrom base bound at i n (from s i) ≡ z → r ≡ stopped at i n → r ≡ z
 unfolding numberFrom

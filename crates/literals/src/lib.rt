@@ -1,7 +1,8 @@
 // Numbers and strings, read left to right in one walk.
 ghost use mathlib.Core.Path.{_≡_};
-ghost use mathlib.Core.Bool.{false};
+ghost use mathlib.Core.Bool.{false, _&&_};
 ghost use Prim.Native.Nat.{_+_, _≤_, _<_};
+ghost use lib.Dec.{ltb};
 ghost use lib.ListN.{length, getD};
 ghost use Rattle.text.specs.Runs.{from};
 ghost use Rattle.literals.specs.Numbers.{stopped, numberFrom};
@@ -33,6 +34,13 @@ fn number_ends(at: usize, end: usize, value: u32) -> Reading
     }
 }
 
+// A digit of the base makes the number too large; a wrong digit never does.
+fn overflows(v: u32, base: u32, bound: u32, more: u32) -> bool
+    ensures { λ r. ⌜ r ≡ (ltb v base && ltb bound more) ⌝ }
+{
+    (v < base) & (bound < more)
+}
+
 // The number that the word characters from `at` write; at each character a wrong digit goes before an overflow.
 pub fn read_number(src: &[u8], at: usize, base: u32, bound: u32) -> Reading
     requires { ⌜ (base ≤ 16) × (bound ≤ 65535) ⌝ }
@@ -43,15 +51,15 @@ pub fn read_number(src: &[u8], at: usize, base: u32, bound: u32) -> Reading
     while i < src.len() {
         let b = src[i];
         let v = text::digit_value(b) as u32;
+        let more = value * base + v;
+        if overflows(v, base, bound, more) {
+            return Reading::Over(i);
+        }
         if base <= v {
             if text::is_word(b) {
                 return Reading::Wrong(i);
             }
             return number_ends(at, i, value);
-        }
-        let more = value * base + v;
-        if bound < more {
-            return Reading::Over(i);
         }
         value = more;
         i += 1;

@@ -6,7 +6,7 @@ use mathlib.Core.List.{List}
 use mathlib.Core.Option.{none}
 use native.Mathlib.Nat.{mod-lt, mul-le-mul}
 use native.Mathlib.Omega.{arith}
-use borrow.Author.Tests.{eq-eqb, ne-eqb, le-leb, lt-leb}
+use borrow.Author.Tests.{eq-eqb, ne-eqb, le-leb, lt-leb, leb-true}
 use lib.Dec.{leb}
 use lib.ListN.{length}
 use Rattle.rules.specs.Base.{if_then_else_, ok, span}
@@ -72,8 +72,8 @@ module _ (g : Given) (f : Field) (other : ℕ) (t : Lexeme) (m : Range) (e : m �
   modulus-is : m .modulus ≡ rangeOf f .modulus
   modulus-is = ap (λ (y : Range). y .modulus) e
 
-  pub number-low : t .value ≤ m .low → t .value ≤ m .modulus
-  number-low h = omega (arith, sound f .low, low-is, modulus-is)
+  pub number-low : (b : Bool) → b ≡ leb (t .value) (m .low) → b ≡ true → t .value ≤ m .modulus
+  number-low b p y = omega (arith, leb-true (t .value) (m .low) (sym p ∙ y), sound f .low, low-is, modulus-is)
 
   module _ (x : ℕ) (z : m .modulus ≡ 0 → ⊥) (q : x ≡ raiseOf f) where
     pub minus-small : x + (m .modulus - t .value) % m .modulus ≤ 33554432
@@ -99,33 +99,33 @@ module _ (g : Given) (f : Field) (other : ℕ) (t : Lexeme) (m : Range) (e : m �
       some-numbers : rangeOf f .modulus ≡ 0 → ⊥
       some-numbers k = z (modulus-is ∙ k)
 
-      pub minus-took : (x : ℕ) → t .sort ≡ 1 → t .value ≤ m .low → x ≡ raiseOf f → r ≡ Took (addTo g (bits (x + (m .modulus - t .value) % m .modulus)) (t .end)) → Numbered
+      pub minus-took : (x : ℕ) (b : Bool) → t .sort ≡ 1 → b ≡ leb (t .value) (m .low) → b ≡ true → x ≡ raiseOf f → r ≡ Took (addTo g (bits (x + (m .modulus - t .value) % m .modulus)) (t .end)) → Numbered
       unfolding inRange reduced
-      minus-took x k l q h =
-          let b : leb (t .value) (rangeOf f .low) ≡ true = le-leb (t .value) (rangeOf f .low) (omega (arith, low-is)) in
+      minus-took x b k p y q h =
+          let l : leb (t .value) (rangeOf f .low) ≡ true = rw low-is at (sym p ∙ y) in
           step-bits g _ (t .end) r (x + (m .modulus - t .value) % m .modulus) (minus-small x z q)
-          (rw (num-minus (t .sort) (t .value) k) (number-in other (minus (t .value)) _ f some-numbers b ∙ rw (modulus-is, q) (ap (λ (n : ℕ). ok (bits n)) (raised-is f ((rangeOf f .modulus - t .value) % rangeOf f .modulus)))))
+          (rw (num-minus (t .sort) (t .value) k) (number-in other (minus (t .value)) _ f some-numbers l ∙ rw (modulus-is, q) (ap (λ (n : ℕ). ok (bits n)) (raised-is f ((rangeOf f .modulus - t .value) % rangeOf f .modulus)))))
           h
 
-      pub minus-out : t .sort ≡ 1 → m .low < t .value → r ≡ Refused 15 (t .start) (t .end) → Numbered
+      pub minus-out : (b : Bool) → t .sort ≡ 1 → b ≡ leb (t .value) (m .low) → b ≡ false → r ≡ Refused 15 (t .start) (t .end) → Numbered
       unfolding inRange
-      minus-out k l h =
-          let b : leb (t .value) (rangeOf f .low) ≡ false = lt-leb (t .value) (rangeOf f .low) (omega (arith, low-is)) in
-          step-refused g _ (t .end) r 15 (t .start) (t .end) (rw (num-minus (t .sort) (t .value) k) (number-out other (minus (t .value)) _ f some-numbers b)) h
+      minus-out b k p y h =
+          let l : leb (t .value) (rangeOf f .low) ≡ false = rw low-is at (sym p ∙ y) in
+          step-refused g _ (t .end) r 15 (t .start) (t .end) (rw (num-minus (t .sort) (t .value) k) (number-out other (minus (t .value)) _ f some-numbers l)) h
 
-      pub plus-took : (x : ℕ) → (t .sort ≡ 1 → ⊥) → t .value < 65536 → t .value ≤ m .high → x ≡ raiseOf f → r ≡ Took (addTo g (bits (x + t .value)) (t .end)) → Numbered
+      pub plus-took : (x : ℕ) (b : Bool) → (t .sort ≡ 1 → ⊥) → t .value < 65536 → b ≡ leb (t .value) (m .high) → b ≡ true → x ≡ raiseOf f → r ≡ Took (addTo g (bits (x + t .value)) (t .end)) → Numbered
       unfolding inRange reduced
-      plus-took x k s l q h =
-          let b : leb (t .value) (rangeOf f .high) ≡ true = le-leb (t .value) (rangeOf f .high) (omega (arith, high-is)) in
+      plus-took x b k s p y q h =
+          let l : leb (t .value) (rangeOf f .high) ≡ true = rw high-is at (sym p ∙ y) in
           step-bits g _ (t .end) r (x + t .value) (plus-small x z q s)
-          (rw (num-plus (t .sort) (t .value) k) (number-in other (plus (t .value)) _ f some-numbers b ∙ rw q (ap (λ (n : ℕ). ok (bits n)) (raised-is f (t .value)))))
+          (rw (num-plus (t .sort) (t .value) k) (number-in other (plus (t .value)) _ f some-numbers l ∙ rw q (ap (λ (n : ℕ). ok (bits n)) (raised-is f (t .value)))))
           h
 
-      pub plus-out : (t .sort ≡ 1 → ⊥) → m .high < t .value → r ≡ Refused 15 (t .start) (t .end) → Numbered
+      pub plus-out : (b : Bool) → (t .sort ≡ 1 → ⊥) → b ≡ leb (t .value) (m .high) → b ≡ false → r ≡ Refused 15 (t .start) (t .end) → Numbered
       unfolding inRange
-      plus-out k l h =
-          let b : leb (t .value) (rangeOf f .high) ≡ false = lt-leb (t .value) (rangeOf f .high) (omega (arith, high-is)) in
-          step-refused g _ (t .end) r 15 (t .start) (t .end) (rw (num-plus (t .sort) (t .value) k) (number-out other (plus (t .value)) _ f some-numbers b)) h
+      plus-out b k p y h =
+          let l : leb (t .value) (rangeOf f .high) ≡ false = rw high-is at (sym p ∙ y) in
+          step-refused g _ (t .end) r 15 (t .start) (t .end) (rw (num-plus (t .sort) (t .value) k) (number-out other (plus (t .value)) _ f some-numbers l)) h
 
 -- A LABEL
 module _ (g : Given) (f : Field) (other : ℕ) (t : Lexeme) (m : ℕ) (r : Step) (e : m ≡ reachOf f) where

@@ -5,6 +5,7 @@ ghost use mathlib.Core.Path.{_≡_};
 ghost use mathlib.Core.List.{List};
 ghost use mathlib.Core.Option.{none};
 ghost use Prim.Native.Nat.{ℕ, _≤_, _-_};
+ghost use lib.Dec.{leb};
 ghost use lib.ListN.{length};
 ghost use Rattle.rules.specs.Base.{span};
 ghost use Rattle.rules.specs.Tokens.{tokenIn, number, register, word, text};
@@ -207,6 +208,13 @@ fn register_operand(g: Given, field: Field, other: u16, t: Lexeme) -> Step
     took(g, n, t)
 }
 
+// A number is at most its bound.
+fn within(value: u16, bound: u16) -> bool
+    ensures { λ r. ⌜ r ≡ leb value bound ⌝ }
+{
+    value <= bound
+}
+
 // A number as an operand.
 fn number_operand(g: Given, field: Field, other: u16, t: Lexeme) -> Step
     requires { ⌜ g .bits ≤ 268435456 ⌝ }
@@ -218,13 +226,13 @@ fn number_operand(g: Given, field: Field, other: u16, t: Lexeme) -> Step
     }
     let value = t.value as u32;
     if t.sort == 1 {
-        if t.value <= range.low {
+        if within(t.value, range.low) {
             let n = raise(field) + (range.modulus - value) % range.modulus;
             return took(g, n, t);
         }
         return refused(15, t);
     }
-    if t.value <= range.high {
+    if within(t.value, range.high) {
         let n = raise(field) + value;
         return took(g, n, t);
     }

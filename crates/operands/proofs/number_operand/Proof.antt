@@ -16,6 +16,9 @@ returns c = search (needs, number-refused)
 cast-value : tie.Need-cast-value
 cast-value c = search needs
 
+within-requires : tie.Need-within-requires
+within-requires c κs = search needs
+
 raise-requires : tie.Need-raise-requires
 raise-requires c κs = search needs
 
@@ -39,6 +42,9 @@ refused-requires-2 c κs = search needs
 
 returns-3 : tie.Need-returns-3
 returns-3 c = search (needs, minus-out)
+
+within-requires-2 : tie.Need-within-requires-2
+within-requires-2 c κs = search needs
 
 raise-requires-2 : tie.Need-raise-requires-2
 raise-requires-2 c κs = search needs
@@ -66,6 +72,7 @@ number-operand-spec =
     refused-requires
     returns
     cast-value
+    within-requires
     raise-requires
     sub-n
     rem-n
@@ -74,6 +81,7 @@ number-operand-spec =
     returns-2
     refused-requires-2
     returns-3
+    within-requires-2
     raise-requires-2
     add-n-2
     took-requires-2

@@ -14,4 +14,4 @@ turn-u8-spec =
     (λ c κs. search needs)
     (λ c κs. search needs)
     (λ c. search needs)
-    (λ c. search (needs, turns)))
+    (λ c. turns _ _ _ _ _ _ _ (c .before .before .before .before .before .before .before .before .before .before .before .before .before .before .before .pre .0) (c .before .before .before .before .before .before .before .before .before .before .before .before .before .before .before .pre .1 .0) (c .before .before .before .before .before .before .before .before .before .before .before .before .before .before .before .pre .1 .1) (c .before .before .before .before .before .before .before .before .before .before .reverse-u8 .ensures) (c .before .before .before .before .before .before .reverse-u82 .ensures) (c .before .before .reverse-u83 .ensures)))
