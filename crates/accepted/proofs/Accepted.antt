@@ -23,7 +23,7 @@ use Rattle.accepted.proofs.Objects.{blocksOf, labelsOf, finished-good}
 use Rattle.accepted.proofs.Statements.{all-sound, ascii-low}
 
 -- the words of blocks
-flat-total : (bs : List Placed) → length (flat (blocksOf bs)) ≡ total bs
+pub flat-total : (bs : List Placed) → length (flat (blocksOf bs)) ≡ total bs
 flat-total [] = refl
 flat-total (b ∷ bs) = length-append (b .words) (flat (blocksOf bs)) ∙ ap (λ (n : ℕ). length (b .words) + n) (flat-total bs)
 
@@ -34,7 +34,7 @@ required false n p o a e = let z : _≡_ {A = ℕ} 0 1 = cc in absurd (omega ari
 unit-ok : (o : Outcome (Unit {0})) (x : Unit {0}) → o ≡ ok x → o ≡ ok tt
 unit-ok o tt e = e
 
-lexed-low : (s : List ℕ) (ts : List Token) → lexed s ≡ ok ts → Low s
+pub lexed-low : (s : List ℕ) (ts : List Token) → lexed s ≡ ok ts → Low s
 unfolding lexed
 lexed-low s ts e =
     let u = required (leb (length s) sourceRoom) 11 (span 0 (length s)) (ascii 0 s >> tokens s) ts e in

@@ -108,7 +108,7 @@ sorted-labels : (t : Table Name Symbol) → Sorted nameOrder t → Sorted nameOr
 sorted-labels [] h = tt
 sorted-labels (e ∷ t) h = (low-labels (e .0) t (h .0), sorted-labels t (h .1))
 
-length-labels : (t : Table Name Symbol) → length (labelsOf t) ≡ length t
+pub length-labels : (t : Table Name Symbol) → length (labelsOf t) ≡ length t
 length-labels [] = refl
 length-labels (e ∷ t) = ap suc (length-labels t)
 

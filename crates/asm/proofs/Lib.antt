@@ -1,2 +1,5 @@
 -- The proofs of `asm`. Assumes nothing.
 pub mod Blocks
+pub mod Tables
+pub mod Single
+pub mod Leaving
