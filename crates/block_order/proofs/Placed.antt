@@ -21,12 +21,12 @@ use Rattle.block_order.specs.Placing.{Ready}
 use Rattle.block_order.proofs.Places.{meets, Far, place-hit, place-first, place-last, place-free, place-clash}
 use Rattle.block_order.proofs.Inserted.{row-before, row-first, row-second, row-after, sum-same, sum-rise, sum-later}
 
-cells-long : (ws ms : List ℕ) (lo n : ℕ) → length (cellsAt ws ms lo n) ≡ n
+pub cells-long : (ws ms : List ℕ) (lo n : ℕ) → length (cellsAt ws ms lo n) ≡ n
 unfolding cellsAt
 cells-long ws ms lo n = length-tab n (λ i. cellRow ws ms (lo + i))
 
 -- words that stand elsewhere
-cells-moved : (ws ms ws′ ms′ : List ℕ) (lo lo′ n : ℕ) → ((j : ℕ) → j < n → getD ws′ (lo′ + j) 0 ≡ getD ws (lo + j) 0)
+pub cells-moved : (ws ms ws′ ms′ : List ℕ) (lo lo′ n : ℕ) → ((j : ℕ) → j < n → getD ws′ (lo′ + j) 0 ≡ getD ws (lo + j) 0)
     → ((j : ℕ) → j < n → getD ms′ (lo′ + j) 0 ≡ getD ms (lo + j) 0) → cellsAt ws′ ms′ lo′ n ≡ cellsAt ws ms lo n
 unfolding cellsAt
 cells-moved ws ms ws′ ms′ lo lo′ n e f =

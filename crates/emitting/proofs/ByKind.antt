@@ -1,0 +1,111 @@
+-- What each kind of statement shows in pass two. Assumes nothing.
+use mathlib.Core.Path.{_≡_, refl, sym, _∙_, ap}
+use mathlib.Core.Bool.{Bool, true, false}
+use mathlib.Core.Option.{Option, none, some}
+use mathlib.Core.List.{List, []}
+use Prim.Native.Nat.{ℕ, _+_, _-_, _*_, _≤_, _<_}
+use native.Mathlib.Omega.{arith}
+use lib.ListN.{length}
+use Rattle.rules.specs.Base.{Outcome, ok, span}
+use Rattle.rules.specs.Tables.{Table}
+use Rattle.rules.specs.Objects.{Cell, Name}
+use Rattle.rules.specs.Words.{instr, orig, fill, blkw, stringz, end, external}
+use Rattle.rules.specs.Words as words
+use Rattle.rules.specs.Statements.{Stmt}
+use Rattle.rules.specs.Passes.{Symbol, placed, two, emit, finish, written}
+use Rattle.rules.specs.Passes as rule
+use Rattle.block_order.specs.Rows.{cellsAt, viewPlaced}
+use Rattle.statement_rows.specs.declared.Op.{Op}
+use Rattle.statement_rows.specs.declared.Op.the-variants.{Instr, Orig, Fill, Blkw, Stringz, External}
+use Rattle.statement_rows.specs.declared.Op.the-variants as op
+use Rattle.parse.specs.declared.Statement.{Statement}
+use Rattle.symbols.specs.Symbols.{symbols}
+use Rattle.reading.specs.Reading.{meantOp, Faithful}
+use Rattle.emitting.specs.declared.Two.{Two}
+use Rattle.emitting.specs.declared.Emitted.{Emitted}
+use Rattle.emitting.specs.declared.Emitted.the-variants.{Went, Refused}
+use Rattle.emitting.specs.State.{openOf, opened, viewTwo, Standing, Stepping, opening, Emits, Begins, Ends, Writes}
+use Rattle.emitting.proofs.Emitting.{went}
+
+-- THE RULE
+module _ (ss : Table Name Symbol) (s : Stmt) (v : rule.Two) where
+  written-words : (written ss instr s v ≡ emit ss s v) × (written ss fill s v ≡ emit ss s v) × (written ss blkw s v ≡ emit ss s v) × (written ss stringz s v ≡ emit ss s v)
+  unfolding written
+  written-words = (refl, refl, refl, refl)
+
+  written-orig : written ss orig s v ≡ ok (two (some (placed (s .bits) [] (s .place))) (v .blocks))
+  unfolding written
+  written-orig = refl
+
+  written-end : written ss end s v ≡ finish v
+  unfolding written
+  written-end = refl
+
+  written-external : written ss external s v ≡ ok v
+  unfolding written
+  written-external = refl
+
+no-cells : (ws ms : List ℕ) (lo n : ℕ) → n ≡ 0 → [] ≡ cellsAt ws ms lo n
+unfolding cellsAt
+no-cells ws ms lo n e = rw e
+
+module _ (rs src : List ℕ) (n : ℕ) (bs os ws ms : List ℕ) (st : Statement) (t : Two) (v : Writes rs src n bs os ws ms st t) where
+  pub writes-emits : Emits rs src n ws ms st t
+  writes-emits = record {
+    roomy = λ i. record { ready = v .ready; room = v .room i; clear = v .standing .clear; low = v .low i };
+    within = v .standing .within;
+    small = v .small;
+  }
+
+  pub writes-begins : st .op ≡ Orig → Begins st t
+  writes-begins e = record {
+    fresh = v .fresh e;
+    bits = omega (arith, v .ready .low);
+    start = omega (arith, v .ready .size, v .rising, v .within);
+    end = omega (arith, v .ready .size, v .within);
+  }
+
+  pub writes-ends : st .op ≡ op.End → Ends bs os ws ms t
+  writes-ends e = record { standing = v .standing; small = v .small; few = v .few e }
+
+  module _ (at : ℕ) (s : Stmt) (f : Faithful src at st s) where
+    abbrev ss : Table Name Symbol
+    ss = symbols n rs src
+
+    abbrev Rule : Outcome rule.Two
+    Rule = written ss (s .op) s (viewTwo bs os ws ms t)
+
+    rule-of : (o : Op) → st .op ≡ o → written ss (meantOp o) s (viewTwo bs os ws ms t) ≡ Rule
+    rule-of o e = ap (λ (x : words.Op). written ss x s (viewTwo bs os ws ms t)) (sym (f .op ∙ ap meantOp e))
+
+    -- words
+    module _ (ws′ ms′ : List ℕ) (r : Emitted) (h : Stepping bs os ws′ ms′ (emit ss s (viewTwo bs os ws ms t)) r) where
+      as-emitted : (o : Op) → st .op ≡ o → written ss (meantOp o) s (viewTwo bs os ws ms t) ≡ emit ss s (viewTwo bs os ws ms t) → Stepping bs os ws′ ms′ Rule r
+      as-emitted o e q = let y : emit ss s (viewTwo bs os ws ms t) ≡ Rule = sym q ∙ rule-of o e in rw y at h
+
+      pub instr-written : st .op ≡ Instr → Stepping bs os ws′ ms′ Rule r
+      instr-written e = as-emitted Instr e (written-words ss s _ .0)
+
+      pub fill-written : st .op ≡ Fill → Stepping bs os ws′ ms′ Rule r
+      fill-written e = as-emitted Fill e (written-words ss s _ .1)
+
+      pub blkw-written : st .op ≡ Blkw → Stepping bs os ws′ ms′ Rule r
+      blkw-written e = as-emitted Blkw e (written-words ss s _ .2)
+
+      pub string-written : st .op ≡ Stringz → Stepping bs os ws′ ms′ Rule r
+      string-written e = as-emitted Stringz e (written-words ss s _ .3)
+
+    pub orig-written : st .op ≡ Orig → (t′ : Two) → t′ ≡ opening t (st .bits) (st .start) (st .end) → Stepping bs os ws ms Rule (Went t′)
+    orig-written e t′ q =
+        let k = v .standing in
+        let i = v .fresh e in
+        let c = no-cells ws ms (t .base) (t .used - t .base) (omega (arith, k .shut i)) in
+        rw q (went bs os ws ms _ (opening t (st .bits) (st .start) (st .end))
+        (record { few = k .few; room = k .room; room-origs = k .room-origs; sum = k .sum; within = k .within; shut = λ d. (let x : _≡_ {A = ℕ} 0 1 = cc in absurd (omega arith)); words = k .words; marks = k .marks; rows = k .rows; clear = k .clear; clear-blocks = k .clear-blocks; clear-origs = k .clear-origs })
+        (sym (sym (rule-of Orig e) ∙ (written-orig ss s _ ∙ λ z. ok (two (some (placed (f .bits z) (c z) (f .place z))) (viewPlaced (t .blocks) bs os ws ms))))))
+
+    pub end-written : st .op ≡ op.End → (bs′ os′ ws′ ms′ : List ℕ) (r : Emitted) → Stepping bs′ os′ ws′ ms′ (finish (viewTwo bs os ws ms t)) r → Stepping bs′ os′ ws′ ms′ Rule r
+    end-written e bs′ os′ ws′ ms′ r h = let y : finish (viewTwo bs os ws ms t) ≡ Rule = sym (written-end ss s _) ∙ rule-of op.End e in rw y at h
+
+    pub external-written : st .op ≡ External → Stepping bs os ws ms Rule (Went t)
+    external-written e = went bs os ws ms _ t (v .standing) (sym (sym (rule-of External e) ∙ written-external ss s _))

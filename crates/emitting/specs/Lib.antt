@@ -1,0 +1,2 @@
+-- What the contracts of `emitting` cite beside the rules. Assumes nothing.
+pub mod State

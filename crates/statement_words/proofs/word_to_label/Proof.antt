@@ -1,0 +1,66 @@
+-- `statement_words::word_to_label` meets its contract. Assumes nothing.
+use borrow.Author.Needs.{needs}
+use Rattle.statement_words.proofs.Wording.{row-in, address-low, to-label, to-external, to-nothing}
+use Rattle.statement_words.proofs.word_to_label.Statement.{statement}
+use Rattle.statement_words.proofs.word_to_label.Tie as tie
+
+label-row-requires : tie.Need-label-row-requires
+label-row-requires c κs = search needs
+
+enum-known-k : tie.Need-enum-known-k
+enum-known-k c = search needs
+
+cell-requires : tie.Need-cell-requires
+cell-requires c κs = search (needs, row-in)
+
+cell-requires-2 : tie.Need-cell-requires-2
+cell-requires-2 c κs = search (needs, row-in)
+
+word16-requires : tie.Need-word16-requires
+word16-requires c κs = search (needs, address-low)
+
+add-word16 : tie.Need-add-word16
+add-word16 c = search needs
+
+word16-requires-2 : tie.Need-word16-requires-2
+word16-requires-2 c κs = search needs
+
+offset-word-requires : tie.Need-offset-word-requires
+offset-word-requires c κs = search needs
+
+returns : tie.Need-returns
+returns c = to-label _ _ _ _ (c .before .before .before .before .before .before .before .before .before .before .before .before .pre .0) _ (c .before .before .before .before .before .before .before .before .before .label-row .ensures) _ (c .before .before .before .before .before .before .before .k .given .1) _ _ _ (c .before .before .before .before .before .cell .ensures) (c .before .before .before .before .if1 .taken) (c .before .before .before .cell2 .ensures) _ (c .before .before .word16 .ensures) _ (c .before .word162 .ensures) _ (c .offset-word .ensures)
+
+refused-requires : tie.Need-refused-requires
+refused-requires c κs = search needs
+
+enum-told : tie.Need-enum-told
+enum-told c = search needs
+
+refused-requires-2 : tie.Need-refused-requires-2
+refused-requires-2 c κs = search needs
+
+returns-2 : tie.Need-returns-2
+returns-2 c = search (needs, to-external)
+
+returns-3 : tie.Need-returns-3
+returns-3 c = search (needs, to-nothing)
+
+pub word-to-label-spec : {M : Type 1} → statement M
+word-to-label-spec =
+    tie.close
+    (tie.spec
+    label-row-requires
+    enum-known-k
+    cell-requires
+    cell-requires-2
+    word16-requires
+    add-word16
+    word16-requires-2
+    offset-word-requires
+    returns
+    refused-requires
+    enum-told
+    refused-requires-2
+    returns-2
+    returns-3)
