@@ -3,3 +3,4 @@ pub mod Blocks
 pub mod Tables
 pub mod Single
 pub mod Leaving
+pub mod Stages

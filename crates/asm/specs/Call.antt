@@ -1,13 +1,22 @@
 -- The call that assembles: what it answers, and what it leaves in the six lent buffers. Assumes nothing.
 use mathlib.Core.Path.{_≡_, sym, _∙_, ap}
-use mathlib.Core.List.{List}
-use Prim.Native.Nat.{ℕ}
-use Rattle.rules.specs.Base.{if_then_else_, Outcome, ok, refused, refuse, Span, span, nowhere}
+use mathlib.Core.Bool.{false}
+use mathlib.Core.List.{List, [], map}
+use mathlib.Core.Option.{none}
+use Prim.Native.Nat.{ℕ, _≤_}
+use lib.Dec.{leb}
+use Rattle.rules.specs.Base.{if_then_else_, Outcome, ok, refused, refuse, require, _>>=_, _>>_, Span, span, nowhere}
 use Rattle.rules.specs.Answers.{answer}
 use Rattle.rules.specs.Answers as rule
-use Rattle.rules.specs.Objects.{Object, nothing}
+use Rattle.rules.specs.Tables.{mapT}
+use Rattle.rules.specs.Tokens.{Token, lexed}
+use Rattle.rules.specs.Statements.{Stmt, statements}
+use Rattle.rules.specs.Objects.{Object, object, nothing}
 use Rattle.rules.specs.Buffers.{Buffers, short, lentWords, layout}
-use Rattle.rules.specs.Passes.{assemble}
+use Rattle.rules.specs.Passes.{One, one, passOne, two, passTwo, assemble}
+use Rattle.counter.specs.declared.One as code
+use Rattle.emitting.specs.declared.Two.{Two}
+use Rattle.filling.specs.Tables.{seen, Held}
 use Rattle.asm.specs.declared.Answer.{Answer}
 
 -- the answer in the rules' words
@@ -18,6 +27,10 @@ meant r = record {
   second = span (r .start2) (r .end2);
   counts = record { blocks = r .blocks; words = r .words; labels = r .labels; relocs = r .relocations };
 }
+
+-- of an object with these tables and blocks
+abbrev pub accepting : code.One → Two → Answer
+accepting o t = record { number = 0; start = 0; end = 0; start2 = 0; end2 = 0; blocks = t .blocks; words = t .used; labels = o .labels; relocations = o .relocations }
 
 -- 42 comes before all else
 unfoldable pub called : Buffers → List ℕ → Outcome Object
@@ -35,3 +48,32 @@ pub record Leaves (o : Outcome Object) (b : Buffers) (r : Answer) (b′ : Buffer
 
 abbrev pub Assembled : Buffers → List ℕ → Answer → Buffers → Type 0
 Assembled b s r b′ = Leaves (called b s) b r b′
+
+-- THE STAGES, as the rule's `assemble` has them
+
+-- the object that pass two makes, with the tables of pass one
+unfoldable pub afterTwo : List Stmt → One → Outcome Object
+afterTwo ss o = do
+  t ← passTwo (o .symbols) ss (two none [])
+  ok (object (map (λ b. (b .start, b .words)) (t .blocks)) (mapT (λ n s. s .lab) (o .symbols)) (o .relocs))
+
+-- 41, then pass two
+unfoldable pub afterOne : ℕ → List Stmt → One → Outcome Object
+afterOne room ss o = require (leb (o .words) room) 41 nowhere >> afterTwo ss o
+
+-- both passes
+unfoldable pub passes : ℕ → List Stmt → Outcome Object
+passes room ss = passOne ss (one none [] [] 0 0) >>= afterOne room ss
+
+-- a source that the lexer and the reader of statements accept
+pub record Readable (s : List ℕ) : Type 0 where
+  pub tokens : List Token
+  pub clean : lexed s ≡ ok tokens
+  pub stmts : List Stmt
+  pub read : statements s ≡ ok stmts
+
+-- and that pass one accepts, with its tables
+pub record Begun (rs qs s : List ℕ) (o : code.One) : Type 0 where
+  pub readable : Readable s
+  pub held : Held rs qs s o
+  pub first : passOne (readable .stmts) (one none [] [] 0 0) ≡ ok (seen rs qs s o)
