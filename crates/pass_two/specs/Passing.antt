@@ -1,0 +1,43 @@
+-- Pass two over a whole source that pass one accepted. Assumes nothing.
+use mathlib.Core.Path.{_≡_}
+use mathlib.Core.Bool.{false}
+use mathlib.Core.List.{List, []}
+use mathlib.Core.Option.{none}
+use Prim.Native.Nat.{ℕ, _≤_}
+use lib.ListN.{length}
+use Rattle.rules.specs.Base.{ok}
+use Rattle.rules.specs.Statements.{Stmt, statements}
+use Rattle.rules.specs.Passes.{One, one, two, passOne, passTwo}
+use Rattle.rules.specs.Buffers.{zeros}
+use Rattle.symbols.specs.Symbols.{symbols, Growing}
+use Rattle.emitting.specs.declared.Two.{Two}
+use Rattle.emitting.specs.declared.Emitted.{Emitted}
+use Rattle.emitting.specs.declared.Emitted.the-variants.{Went}
+use Rattle.emitting.specs.State.{viewTwo, told, Standing}
+
+-- pass two before the first statement
+abbrev pub fresh : Two
+fresh = record { inside = false; start = 0; «orig_start» = 0; «orig_end» = 0; blocks = 0; base = 0; used = 0 }
+
+-- a source whose statements pass one accepts, its symbols, and blank buffers with room for its words
+pub record Passing (rs src : List ℕ) (n : ℕ) (bs os ws ms : List ℕ) : Type 0 where
+  pub stmts : List Stmt
+  pub read : statements src ≡ ok stmts
+  pub final : One
+  pub passed : passOne stmts (one none [] [] 0 0) ≡ ok final
+  pub table : Growing rs src n
+  pub size : length src ≤ 262144
+  pub room : 128 ≤ length bs
+  pub room-origs : 128 ≤ length os
+  pub words : final .words ≤ length ws
+  pub marks : final .words ≤ length ms
+  pub blank : bs ≡ zeros (length bs)
+  pub blank-origs : os ≡ zeros (length os)
+  pub blank-words : ws ≡ zeros (length ws)
+  pub blank-marks : ms ≡ zeros (length ms)
+
+-- what pass two says of a source, and the buffers that it leaves: every block is closed
+pub record PassedTwo (rs src : List ℕ) (n : ℕ) (bs′ os′ ws′ ms′ : List ℕ) (r : Emitted) : Type 0 where
+  pub rule : (ss : List Stmt) → statements src ≡ ok ss → told bs′ os′ ws′ ms′ r ≡ passTwo (symbols n rs src) ss (two none [])
+  pub kept : (t : Two) → r ≡ Went t → Standing bs′ os′ ws′ ms′ t
+  pub shut : (t : Two) → r ≡ Went t → t .inside ≡ false
