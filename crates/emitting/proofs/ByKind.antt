@@ -1,14 +1,12 @@
 -- What each kind of statement shows in pass two. Assumes nothing.
 use mathlib.Core.Path.{_≡_, refl, sym, _∙_, ap}
-use mathlib.Core.Bool.{Bool, true, false}
-use mathlib.Core.Option.{Option, none, some}
+use mathlib.Core.Option.{some}
 use mathlib.Core.List.{List, []}
-use Prim.Native.Nat.{ℕ, _+_, _-_, _*_, _≤_, _<_}
+use Prim.Native.Nat.{ℕ, _-_}
 use native.Mathlib.Omega.{arith}
-use lib.ListN.{length}
-use Rattle.rules.specs.Base.{Outcome, ok, span}
+use Rattle.rules.specs.Base.{Outcome, ok}
 use Rattle.rules.specs.Tables.{Table}
-use Rattle.rules.specs.Objects.{Cell, Name}
+use Rattle.rules.specs.Objects.{Name}
 use Rattle.rules.specs.Words.{instr, orig, fill, blkw, stringz, end, external}
 use Rattle.rules.specs.Words as words
 use Rattle.rules.specs.Statements.{Stmt}
@@ -23,8 +21,8 @@ use Rattle.symbols.specs.Symbols.{symbols}
 use Rattle.reading.specs.Reading.{meantOp, Faithful}
 use Rattle.emitting.specs.declared.Two.{Two}
 use Rattle.emitting.specs.declared.Emitted.{Emitted}
-use Rattle.emitting.specs.declared.Emitted.the-variants.{Went, Refused}
-use Rattle.emitting.specs.State.{openOf, opened, viewTwo, Standing, Stepping, opening, Emits, Begins, Ends, Writes}
+use Rattle.emitting.specs.declared.Emitted.the-variants.{Went}
+use Rattle.emitting.specs.State.{viewTwo, Stepping, opening, Emits, Begins, Ends, Writes}
 use Rattle.emitting.proofs.Emitting.{went}
 
 -- THE RULE

@@ -1,22 +1,15 @@
 -- What each way through an .orig and an .end shows. Assumes nothing.
 use mathlib.Core.Path.{_≡_, refl, sym, _∙_, ap}
-use mathlib.Core.Bool.{Bool, true, false}
-use mathlib.Core.Option.{Option, none, some}
-use mathlib.Core.List.{List, [], _∷_, _++_}
+use mathlib.Core.Bool.{true, false}
+use mathlib.Core.Option.{none, some}
+use mathlib.Core.List.{List}
 use Prim.Native.Nat.{ℕ, _+_, _-_, _*_, _≤_, _<_}
 use native.Mathlib.Omega.{arith}
 use borrow.Author.Tests.{eq-eqb, ne-eqb}
 use lib.ListN.{length, getD, drop}
 use lib.Seq.{getD-drop}
-use lib.Dec.{eqb}
-use Rattle.rules.specs.Base.{if_then_else_, Outcome, ok, refuse2, _>>=_, Span, span}
-use Rattle.rules.specs.Tables.{Table}
-use Rattle.rules.specs.Objects.{Cell, Name}
-use Rattle.rules.specs.Words.{orig}
-use Rattle.rules.specs.Statements.{Stmt}
-use Rattle.rules.specs.Passes.{Symbol, Placed, placed, two, place, finish, written}
-use Rattle.rules.specs.Passes as rule
-use Rattle.rules.specs.Buffers.{headRow, sumOf}
+use Rattle.rules.specs.Base.{if_then_else_, Outcome, ok, _>>=_, span}
+use Rattle.rules.specs.Passes.{Placed, placed, two, place, finish}
 use Rattle.block_order.specs.Rows.{cellsAt, viewPlaced}
 use Rattle.block_order.specs.Placing.{Ready, PlacedAs}
 use Rattle.block_order.specs.Placing as order
@@ -24,11 +17,10 @@ use Rattle.block_order.specs.declared.Placing.{Placing}
 use Rattle.block_order.specs.declared.Placing.the-variants as placing
 use Rattle.block_order.proofs.Placed.{cells-long}
 use Rattle.parse.specs.declared.Statement.{Statement}
-use Rattle.reading.specs.Reading.{Faithful}
 use Rattle.emitting.specs.declared.Two.{Two}
 use Rattle.emitting.specs.declared.Emitted.{Emitted}
 use Rattle.emitting.specs.declared.Emitted.the-variants.{Went, Refused}
-use Rattle.emitting.specs.State.{openOf, opened, viewTwo, told, Standing, Stepping, opening, closing, closeOf, Ends}
+use Rattle.emitting.specs.State.{opened, viewTwo, Standing, Stepping, opening, closing, closeOf, Ends}
 use Rattle.emitting.proofs.Emitting.{went, stuck}
 
 -- AN ORIG

@@ -1,16 +1,16 @@
 -- What each way through a statement's words shows. Assumes nothing.
 use mathlib.Core.Path.{_≡_, refl, sym, _∙_, ap}
-use mathlib.Core.Bool.{Bool, true, false}
-use mathlib.Core.Option.{Option, none, some}
-use mathlib.Core.List.{List, [], _∷_, _++_}
-use Prim.Native.Nat.{ℕ, _+_, _-_, _*_, _≤_, _<_}
+use mathlib.Core.Bool.{true, false}
+use mathlib.Core.Option.{none, some}
+use mathlib.Core.List.{List, _++_}
+use Prim.Native.Nat.{ℕ, _+_, _-_, _<_}
 use native.Mathlib.Omega.{arith}
 use lib.ListN.{length}
-use Rattle.rules.specs.Base.{Outcome, ok, refuse, refuse2, refused, _>>=_, Span, span}
+use Rattle.rules.specs.Base.{Outcome, ok, refuse, refuse2, _>>=_, span}
 use Rattle.rules.specs.Tables.{Table}
 use Rattle.rules.specs.Objects.{Cell, Name}
 use Rattle.rules.specs.Statements.{Stmt}
-use Rattle.rules.specs.Passes.{Symbol, sizeOf, wordsOf, Placed, placed, two, emit}
+use Rattle.rules.specs.Passes.{Symbol, wordsOf, Placed, placed, two, emit}
 use Rattle.rules.specs.Passes as rule
 use Rattle.passes.proofs.Alongside.{words-size}
 use Rattle.block_order.specs.Rows.{cellsAt, viewPlaced}
@@ -21,12 +21,12 @@ use Rattle.reading.specs.Reading.{Faithful}
 use Rattle.writing.specs.declared.Written.{Written}
 use Rattle.writing.specs.declared.Written.the-variants.{Upto}
 use Rattle.writing.specs.declared.Written.the-variants as written
-use Rattle.writing.specs.Writing.{Clear, Room, Wrote, WroteAs, sizeAt, Roomy}
+use Rattle.writing.specs.Writing.{Wrote, WroteAs, sizeAt, Roomy}
 use Rattle.writing.proofs.Statements.{size-is}
 use Rattle.emitting.specs.declared.Two.{Two}
 use Rattle.emitting.specs.declared.Emitted.{Emitted}
 use Rattle.emitting.specs.declared.Emitted.the-variants.{Went, Refused}
-use Rattle.emitting.specs.State.{openOf, opened, viewTwo, told, Standing, Stepping, withUsed, stepOf, Emits}
+use Rattle.emitting.specs.State.{openOf, opened, viewTwo, Standing, Stepping, withUsed, stepOf, Emits}
 use Rattle.emitting.proofs.Views.{view-same, cells-behind, rows-behind, clear-behind}
 
 -- a step that went, and one that was refused

@@ -5,7 +5,7 @@ use mathlib.Core.Option.{Option, none, some}
 use mathlib.Core.List.{List}
 use Prim.Native.Nat.{ℕ, _+_, _-_, _*_, _≤_, _<_}
 use lib.ListN.{length, getD}
-use Rattle.rules.specs.Base.{Outcome, ok, refuse2, Span, span}
+use Rattle.rules.specs.Base.{Outcome, ok, refuse2, span}
 use Rattle.rules.specs.Passes.{Placed, placed, two}
 use Rattle.rules.specs.Passes as rule
 use Rattle.rules.specs.Buffers.{headRow, sumOf, WordRow}

@@ -1,3 +1,4 @@
--- Laws that the proofs of `pass_two` cite. Assumes nothing.
+-- Laws that the proofs of `pass_two` cite, and what pass two leaves. Assumes nothing.
 pub mod Room
 pub mod Loop
+pub mod Leaving

@@ -2,15 +2,15 @@
 use mathlib.Core.Path.{_≡_, refl, sym, _∙_, ap}
 use mathlib.Core.Bool.{Bool, true, false}
 use mathlib.Core.List.{List, [], _∷_}
-use mathlib.Core.Option.{Option, none, some}
-use Prim.Native.Nat.{ℕ, _+_, _-_, _*_, _≤_, _<_}
+use mathlib.Core.Option.{none}
+use Prim.Native.Nat.{ℕ, _-_, _≤_}
 use native.Mathlib.Omega.{arith}
 use lib.ListN.{length, getD}
-use Rattle.rules.specs.Base.{Outcome, ok, refused, refuse2, _>>=_, span}
+use Rattle.rules.specs.Base.{Outcome, ok, refused, _>>=_}
 use Rattle.rules.specs.Tables.{Table}
 use Rattle.rules.specs.Objects.{Name}
 use Rattle.rules.specs.Statements.{Stmt, Read, nextStatement, statementsAt, statements}
-use Rattle.rules.specs.Passes.{Symbol, Cursor, Placed, One, one, Two, two, written, passOne, passTwo}
+use Rattle.rules.specs.Passes.{Symbol, One, one, Two, two, written, passOne, passTwo}
 use Rattle.rules.specs.Buffers.{zeros}
 use Rattle.rules.proofs.Rows.{getD-zeros}
 use Rattle.rules.proofs.Following.{gave, statements-on, statements-none, statements-refused}
@@ -25,7 +25,6 @@ use Rattle.parse.proofs.All.{WasRead, was-read, was-end, was-refused}
 use Rattle.symbols.specs.Symbols.{symbols, Growing}
 use Rattle.reading.specs.Reading.{Faithful}
 use Rattle.reading.proofs.Read.{faithful}
-use Rattle.writing.specs.Writing.{Clear}
 use Rattle.emitting.specs.declared.Two as code
 use Rattle.emitting.specs.declared.Emitted.{Emitted}
 use Rattle.emitting.specs.declared.Emitted.the-variants.{Went, Refused}

@@ -1,21 +1,21 @@
 -- What pass one found is room for a statement in pass two. Assumes nothing.
 use mathlib.Core.Path.{_≡_, refl, sym, _∙_, ap}
 use mathlib.Core.Bool.{Bool, true, false}
-use mathlib.Core.Logic.{_⊎_, inl, inr}
+use mathlib.Core.Logic.{inl, inr}
 use mathlib.Core.Option.{Option, none, some}
 use mathlib.Core.List.{List, [], _∷_, _++_}
 use Prim.Native.Nat.{ℕ, zero, suc, _+_, _-_, _*_, _≤_, _<_}
 use native.Mathlib.Omega.{arith}
 use lib.ListN.{length, getD}
-use Rattle.rules.specs.Base.{Outcome, ok}
+use Rattle.rules.specs.Base.{ok}
 use Rattle.rules.specs.Words.{Range, instr, orig, fill, blkw, stringz, end, external}
 use Rattle.rules.specs.Words as words
 use Rattle.rules.specs.Statements.{Target, Stmt, Read, nextStatement}
 use Rattle.rules.specs.Passes.{One, Placed, Two, sizeOf, passOne}
 use Rattle.rules.specs.Buffers.{tab, headRow, sumOf}
 use Rattle.rules.proofs.Rows.{length-tab, tab-suc}
-use Rattle.passes.proofs.Alongside.{total, stop, Stands, Level, Alongside, Roomy, instr-roomy, fill-roomy, blkw-roomy, stringz-roomy, end-closable, orig-outside}
-use Rattle.block_order.specs.Rows.{cellsAt, blockRow, viewPlaced}
+use Rattle.passes.proofs.Alongside.{total, Level, Alongside, Roomy, instr-roomy, fill-roomy, blkw-roomy, stringz-roomy, end-closable, orig-outside}
+use Rattle.block_order.specs.Rows.{blockRow, viewPlaced}
 use Rattle.block_order.proofs.Placed.{cells-long}
 use Rattle.lines.specs.Lines.{reachOf}
 use Rattle.statement_rows.specs.declared.Op.{Op}
@@ -27,7 +27,7 @@ use Rattle.parse.proofs.Reach.{Reached, Holds, statement-known}
 use Rattle.symbols.specs.Symbols.{Growing}
 use Rattle.reading.specs.Reading.{meantOp, charsAt, Faithful}
 use Rattle.statement_words.specs.Worded.{Ready}
-use Rattle.writing.specs.Writing.{Room, sizeBy, sizeAt}
+use Rattle.writing.specs.Writing.{sizeBy, sizeAt}
 use Rattle.writing.proofs.Statements.{size-is}
 use Rattle.emitting.specs.declared.Two as code
 use Rattle.emitting.specs.State.{openOf, opened, viewTwo, Standing, Writes}

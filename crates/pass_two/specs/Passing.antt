@@ -13,7 +13,7 @@ use Rattle.symbols.specs.Symbols.{symbols, Growing}
 use Rattle.emitting.specs.declared.Two.{Two}
 use Rattle.emitting.specs.declared.Emitted.{Emitted}
 use Rattle.emitting.specs.declared.Emitted.the-variants.{Went}
-use Rattle.emitting.specs.State.{viewTwo, told, Standing}
+use Rattle.emitting.specs.State.{told, Standing}
 
 -- pass two before the first statement
 abbrev pub fresh : Two

@@ -54,13 +54,7 @@ pub fn pass_two(
                         t = next;
                         at = st.next;
                     }
-                    Emitted::Refused {
-                        number: _,
-                        start: _,
-                        end: _,
-                        start2: _,
-                        end2: _,
-                    } => {
+                    _ => {
                         return answer;
                     }
                 }

@@ -10,21 +10,19 @@ use lib.Dec.{eqb}
 use borrow.Author.Tests.{eq-eqb, ne-eqb, eqb-true, eqb-false}
 use Rattle.rules.specs.Base.{if_then_else_, Outcome, ok, refuse, refused, _>>=_, Span, span, nowhere}
 use Rattle.rules.specs.Words.{Range, signed, fits, offset, reach, field, instr, fill}
-use Rattle.rules.specs.Words as words
 use Rattle.rules.specs.Tables.{Table, look, nameOrder}
 use Rattle.rules.specs.Objects.{Cell, word, outer, defined, Lab, addressOf}
 use Rattle.rules.specs.Objects as objects
 use Rattle.rules.specs.Statements.{Name, Stmt, Target}
-use Rattle.rules.specs.Passes.{Symbol, symbol, address, offsetTo, wordsOf}
+use Rattle.rules.specs.Passes.{Symbol, address, offsetTo, wordsOf}
 use Rattle.rules.specs.Buffers.{labFrom}
 use Rattle.words.specs.Fields.{meantOffset}
 use Rattle.words.specs.declared.fields.Replaced.{Replaced}
 use Rattle.words.specs.declared.fields.Replaced.the-variants.{Offset, OffsetNewErr}
-use Rattle.symbols.specs.Symbols.{nameFrom, symbolRow, symbols, Growing}
+use Rattle.symbols.specs.Symbols.{nameFrom, symbolRow, symbols}
 use Rattle.symbols.specs.Adding.{Found}
 use Rattle.symbols.specs.declared.Row.{Row}
 use Rattle.symbols.specs.declared.Row.the-variants.{At, Nothing}
-use Rattle.naming.specs.Naming.{nameBetween}
 use Rattle.statement_rows.specs.declared.Op.{Op}
 use Rattle.statement_rows.specs.declared.Op.the-variants.{Instr, Orig, Fill, Blkw, Stringz, External}
 use Rattle.statement_rows.specs.declared.Op.the-variants as op
@@ -255,9 +253,6 @@ instr-meant op.End e = let z : _≡_ {A = ℕ} 0 1 = cc in absurd (omega arith)
 instr-meant External e = let z : _≡_ {A = ℕ} 0 1 = cc in absurd (omega arith)
 
 module _ (rs src : List ℕ) (n : ℕ) (st : Statement) (v : Ready rs src n st) where
-  pub bits-low : st .reach ≡ 0 → st .bits < 65536
-  bits-low e = omega (arith, v .low)
-
   module _ (z : st .reach ≡ 0 → ⊥) where
     pub aiming : Aiming rs src n st
     aiming = record { table = v .table; size = v .size; between = v .between z }

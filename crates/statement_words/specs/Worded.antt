@@ -9,7 +9,7 @@ use Rattle.rules.specs.Words.{Range, signed, reach, field}
 use Rattle.rules.specs.Tables.{Table}
 use Rattle.rules.specs.Objects.{Cell, word}
 use Rattle.rules.specs.Objects as objects
-use Rattle.rules.specs.Statements.{Name, Target}
+use Rattle.rules.specs.Statements.{Name}
 use Rattle.rules.specs.Passes.{Symbol, address, offsetTo}
 use Rattle.symbols.specs.Symbols.{Growing}
 use Rattle.naming.specs.Naming.{nameBetween, Between}

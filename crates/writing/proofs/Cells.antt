@@ -17,9 +17,8 @@ use Rattle.statement_words.specs.declared.Worded.{Worded}
 use Rattle.statement_words.specs.declared.Worded.the-variants.{Word}
 use Rattle.statement_words.specs.declared.Worded.the-variants as worded
 use Rattle.statement_words.specs.Worded.{told}
-use Rattle.writing.specs.declared.Written.{Written}
 use Rattle.writing.specs.declared.Written.the-variants.{Upto, Refused}
-use Rattle.writing.specs.Writing.{Clear, Room, Wrote, WroteAll, WroteAs}
+use Rattle.writing.specs.Writing.{Clear, Room, Wrote, WroteAs}
 
 pub cells-split : (ws ms : List ℕ) (lo a b : ℕ) → cellsAt ws ms lo (a + b) ≡ cellsAt ws ms lo a ++ cellsAt ws ms (lo + a) b
 unfolding cellsAt

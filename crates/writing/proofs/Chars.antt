@@ -1,10 +1,10 @@
 -- The characters of a string written one by one. Assumes nothing.
 use mathlib.Core.Path.{_≡_, refl, sym, _∙_, ap}
 use mathlib.Core.List.{List, [], _∷_, _++_, map, append-assoc, append-nil, map-append}
-use Prim.Native.Nat.{ℕ, zero, suc, _+_, _-_, _≤_, _<_}
+use Prim.Native.Nat.{ℕ, _+_, _-_, _≤_, _<_}
 use native.Mathlib.Omega.{arith}
 use lib.ListN.{length, length-append, length-map}
-use Rattle.rules.specs.Objects.{Cell, word}
+use Rattle.rules.specs.Objects.{word}
 use Rattle.text.specs.Runs.{from}
 use Rattle.literals.specs.declared.StringChar.{StringChar}
 use Rattle.literals.specs.declared.StringChar.the-variants.{Char, Done}

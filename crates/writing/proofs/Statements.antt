@@ -1,7 +1,7 @@
 -- What each kind of statement writes. Assumes nothing.
-use mathlib.Core.Path.{_≡_, refl, sym, _∙_, ap, subst}
+use mathlib.Core.Path.{_≡_, refl, sym, _∙_, ap}
 use mathlib.Core.List.{List, [], _∷_, _++_, map}
-use Prim.Native.Nat.{ℕ, _+_, _≤_, _<_}
+use Prim.Native.Nat.{ℕ, _+_, _<_}
 use native.Mathlib.Omega.{arith}
 use lib.ListN.{length, replicate, length-append, length-map, length-replicate}
 use Rattle.rules.specs.Base.{Outcome, ok}
@@ -19,8 +19,8 @@ use Rattle.parse.specs.declared.Statement.{Statement}
 use Rattle.symbols.specs.Symbols.{symbols}
 use Rattle.reading.specs.Reading.{meantOp, charsAt, Faithful}
 use Rattle.writing.specs.declared.Written.{Written}
-use Rattle.writing.specs.declared.Written.the-variants.{Upto, Refused}
-use Rattle.writing.specs.Writing.{Clear, Room, Wrote, WroteAs, sizeBy, sizeAt, Roomy}
+use Rattle.writing.specs.declared.Written.the-variants.{Upto}
+use Rattle.writing.specs.Writing.{Room, Wrote, WroteAs, sizeBy, sizeAt, Roomy}
 use Rattle.writing.proofs.Cells.{wrote-none, wrote-unset, went-to}
 
 size-by : (src : List ℕ) (st : Statement) (o : Op) → st .op ≡ o → sizeAt src st ≡ sizeBy o (st .bits) (length (charsAt src (st .«text_start» + 1)))
@@ -52,9 +52,6 @@ module _ (rs src : List ℕ) (n : ℕ) (ws ms : List ℕ) (st : Statement) (used
 
   pub fill-room : st .op ≡ Fill → Room ws ms used 1
   fill-room e = sized-room 1 (size-by src st Fill e)
-
-  pub blkw-room : st .op ≡ Blkw → Room ws ms used (st .bits)
-  blkw-room e = sized-room (st .bits) (size-by src st Blkw e)
 
   pub string-fits : st .op ≡ Stringz → Room ws ms used (length (charsAt src (st .«text_start» + 1)) + 1)
   string-fits e = sized-room _ (size-by src st Stringz e)

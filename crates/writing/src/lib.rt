@@ -5,7 +5,7 @@ use statement_rows::Op;
 use statement_words::Worded;
 ghost use mathlib.Core.Path.{_≡_};
 ghost use mathlib.Core.List.{map, [], _∷_, _++_};
-ghost use Prim.Native.Nat.{ℕ, _+_, _≤_, _<_};
+ghost use Prim.Native.Nat.{ℕ, _+_, _<_};
 ghost use lib.ListN.{length};
 ghost use Rattle.rules.specs.Objects.{word};
 ghost use Rattle.rules.specs.Statements.{Stmt};

@@ -1,6 +1,6 @@
 -- `statement_words::fill_word` meets its contract. Assumes nothing.
 use borrow.Author.Needs.{needs}
-use Rattle.statement_words.proofs.Wording.{bits-low, aiming, fill-aimed, fill-bare}
+use Rattle.statement_words.proofs.Wording.{aiming, fill-aimed, fill-bare}
 use Rattle.statement_words.proofs.fill_word.Statement.{statement}
 use Rattle.statement_words.proofs.fill_word.Tie as tie
 

@@ -1,6 +1,6 @@
 -- `statement_words::instr_word` meets its contract. Assumes nothing.
 use borrow.Author.Needs.{needs}
-use Rattle.statement_words.proofs.Wording.{bits-low, aiming, able, instr-aimed, instr-bare}
+use Rattle.statement_words.proofs.Wording.{aiming, able, instr-aimed, instr-bare}
 use Rattle.statement_words.proofs.instr_word.Statement.{statement}
 use Rattle.statement_words.proofs.instr_word.Tie as tie
 

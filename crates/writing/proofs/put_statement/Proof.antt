@@ -1,6 +1,6 @@
 -- `writing::put_statement` meets its contract. Assumes nothing.
 use borrow.Author.Needs.{needs}
-use Rattle.writing.proofs.Statements.{instr-room, instr-low, fill-room, blkw-room, string-fits, wrote-instr, wrote-fill, wrote-blkw, wrote-string, wrote-orig, wrote-end, wrote-external}
+use Rattle.writing.proofs.Statements.{instr-room, instr-low, fill-room, string-fits, wrote-instr, wrote-fill, wrote-blkw, wrote-string, wrote-orig, wrote-end, wrote-external}
 use Rattle.writing.proofs.put_statement.Statement.{statement}
 use Rattle.writing.proofs.put_statement.Tie as tie
 
