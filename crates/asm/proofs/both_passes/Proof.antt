@@ -1,0 +1,128 @@
+use borrow.Author.Needs.{needs}
+use Rattle.asm.proofs.both_passes.Statement.{statement}
+use Rattle.asm.proofs.both_passes.Tie as tie
+use Rattle.asm.proofs.both_passes.Reads as reads
+use Rattle.asm.proofs.both_passes.Lts as lts
+use Rattle.asm.proofs.refuse.Reads as refuse-reads
+use Rattle.asm.proofs.second_pass.Reads as second-pass-reads
+use Rattle.pass_one.proofs.pass_one.Reads as pass-one-reads
+
+-- src/lib.rt:226:35
+slice-aggregate-pass-one : tie.Need-slice-aggregate-pass-one
+slice-aggregate-pass-one c = search needs
+
+-- src/lib.rt:226:46
+slice-aggregate-pass-one-2 : tie.Need-slice-aggregate-pass-one-2
+slice-aggregate-pass-one-2 c = search needs
+
+-- src/lib.rt:226:11
+pass-one-requires : tie.Need-pass-one-requires
+pass-one-requires c κs = ?
+
+-- src/lib.rt:227:23
+enum-known-o : tie.Need-enum-known-o
+enum-known-o c = search needs
+
+-- src/lib.rt:229:13
+slice-aggregate-second-pass : tie.Need-slice-aggregate-second-pass
+slice-aggregate-second-pass c = search needs
+
+-- src/lib.rt:230:13
+slice-aggregate-second-pass-2 : tie.Need-slice-aggregate-second-pass-2
+slice-aggregate-second-pass-2 c = search needs
+
+-- src/lib.rt:227:29
+second-pass-requires : tie.Need-second-pass-requires
+second-pass-requires c κs = ?
+
+-- src/lib.rt:240:13
+enum-known-number : tie.Need-enum-known-number
+enum-known-number c = search needs
+
+-- src/lib.rt:245:14
+refuse-requires : tie.Need-refuse-requires
+refuse-requires c κs = search needs
+
+-- src/lib.rt:212:1
+same-length : tie.Need-same-length
+same-length c = search needs
+
+-- src/lib.rt:212:1
+same-length-2 : tie.Need-same-length-2
+same-length-2 c = search needs
+
+-- src/lib.rt:212:1
+same-length-3 : tie.Need-same-length-3
+same-length-3 c = search needs
+
+-- src/lib.rt:212:1
+same-length-4 : tie.Need-same-length-4
+same-length-4 c = search needs
+
+-- src/lib.rt:212:1
+same-length-5 : tie.Need-same-length-5
+same-length-5 c = search needs
+
+-- src/lib.rt:212:1
+same-length-6 : tie.Need-same-length-6
+same-length-6 c = search needs
+
+-- src/lib.rt:212:1
+returns : tie.Need-returns
+returns c = ?
+
+-- src/lib.rt:212:1
+same-length-7 : tie.Need-same-length-7
+same-length-7 c = search needs
+
+-- src/lib.rt:212:1
+same-length-8 : tie.Need-same-length-8
+same-length-8 c = search needs
+
+-- src/lib.rt:212:1
+same-length-9 : tie.Need-same-length-9
+same-length-9 c = search needs
+
+-- src/lib.rt:212:1
+same-length-10 : tie.Need-same-length-10
+same-length-10 c = search needs
+
+-- src/lib.rt:212:1
+same-length-11 : tie.Need-same-length-11
+same-length-11 c = search needs
+
+-- src/lib.rt:212:1
+same-length-12 : tie.Need-same-length-12
+same-length-12 c = search needs
+
+-- src/lib.rt:212:1
+returns-2 : tie.Need-returns-2
+returns-2 c = ?
+
+pub both-passes-spec : {M : Type 1} → statement M
+both-passes-spec =
+    tie.close
+    (tie.spec
+    slice-aggregate-pass-one
+    slice-aggregate-pass-one-2
+    pass-one-requires
+    enum-known-o
+    slice-aggregate-second-pass
+    slice-aggregate-second-pass-2
+    second-pass-requires
+    enum-known-number
+    refuse-requires
+    same-length
+    same-length-2
+    same-length-3
+    same-length-4
+    same-length-5
+    same-length-6
+    returns
+    same-length-7
+    same-length-8
+    same-length-9
+    same-length-10
+    same-length-11
+    same-length-12
+    returns-2)
