@@ -6,14 +6,14 @@ use mathlib.Core.Option.{none}
 use Prim.Native.Nat.{ℕ, _≤_, _<_}
 use native.Mathlib.Omega.{arith}
 use lib.Dec.{leb}
-use lib.ListN.{length}
+use lib.ListN.{length, length-replicate}
 use borrow.Author.Tests.{lt-leb, le-leb, leb-true}
 use Rattle.rules.specs.Base.{if_then_else_, Outcome, ok, refused, Refusal, refuse, refuse2, require, Span, span, nowhere, _>>=_, _>>_}
 use Rattle.rules.specs.Capacities.{sourceRoom}
 use Rattle.rules.specs.Tokens.{Token, ascii, tokens, lexed}
 use Rattle.rules.specs.Statements.{Stmt, statements}
 use Rattle.rules.specs.Objects.{Object}
-use Rattle.rules.specs.Buffers.{Buffers, short, lentWords}
+use Rattle.rules.specs.Buffers.{Buffers, short, lentWords, zeros}
 use Rattle.rules.specs.Passes.{One, one, passOne, assemble}
 use Rattle.parse.specs.declared.Statements.{Statements}
 use Rattle.parse.specs.declared.Statements.the-variants.{Accepted, Refused}
@@ -103,3 +103,36 @@ unfolding called if_then_else_ sourceStatements
 refused-leaves b s r x i y h n a e q l =
     let k = known-refusal n a e (lexed s >>= λ ts. statements s) (source-single s) (sym q ∙ h) in
     rw (i, assemble-refused (lentWords (b .words) (b .marks)) s _ k) l
+
+-- 41, with the lent words counted
+module _ (rs qs src : List ℕ) (o : code.One) (ws ms : List ℕ) (room : ℕ) (i : room ≡ lentWords ws ms) where
+  pub refuses-41 : room < o .words → (p : Buffers) (r : Answer) (x : Buffers) → Leaves (refuse2 41 (span 0 0) (span 0 0)) p r x → (ss : List Stmt) → statements src ≡ ok ss → Leaves (afterOne (lentWords ws ms) ss (seen rs qs src o)) p r x
+  refuses-41 l p r x h ss s = rw (← i) (leaves-as (afterOne room ss (seen rs qs src o)) (refuse2 41 (span 0 0) (span 0 0)) p r x (no-room room rs qs src o ss l) h)
+
+  pub has-room : o .words ≤ room → (p : Buffers) (r : Answer) (x : Buffers) → ((ss : List Stmt) → statements src ≡ ok ss → Leaves (afterTwo ss (seen rs qs src o)) p r x) → (ss : List Stmt) → statements src ≡ ok ss → Leaves (afterOne (lentWords ws ms) ss (seen rs qs src o)) p r x
+  has-room l p r x h ss s = rw (← i) (leaves-as (afterOne room ss (seen rs qs src o)) (afterTwo ss (seen rs qs src o)) p r x (with-room room rs qs src o ss l) (h ss s))
+
+-- a source that is read is not too long
+required : {A : Type 0} (b : Bool) (n : ℕ) (p : Span) (o : Outcome A) (a : A) → (require b n p >> o) ≡ ok a → b ≡ true
+required true n p o a e = refl
+required false n p o a e = let z : _≡_ {A = ℕ} 0 1 = cc in absurd (omega arith)
+
+pub readable-size : (s : List ℕ) → Readable s → length s ≤ 262144
+unfolding lexed
+readable-size s g = leb-true (length s) sourceRoom (required (leb (length s) sourceRoom) 11 (span 0 (length s)) (ascii 0 s >> tokens s) (g .tokens) (g .clean))
+
+-- both passes, with the tables of pass one at hand
+module _ (rs qs src : List ℕ) (z : Stepped) (h : PassedOne rs qs src z) (room : ℕ) (p : Buffers) (r : Answer) (x : Buffers) where
+  pub went-leaves : (o : code.One) → z ≡ stepped.Went o → ((ss : List Stmt) → statements src ≡ ok ss → Leaves (afterOne room ss (seen rs qs src o)) p r x) → (ss : List Stmt) → statements src ≡ ok ss → Leaves (passes room ss) p r x
+  went-leaves o e l ss s = leaves-as (passes room ss) (afterOne room ss (seen rs qs src o)) p r x (went-passes rs qs src z h room o e ss s) (l ss s)
+
+  pub stopped-leaves : (n a b c d : ℕ) → z ≡ stepped.Refused n a b c d → Leaves (refuse2 n (span a b) (span c d)) p r x → (ss : List Stmt) → statements src ≡ ok ss → Leaves (passes room ss) p r x
+  stopped-leaves n a b c d e l ss s = leaves-as (passes room ss) (refuse2 n (span a b) (span c d)) p r x (refused-passes rs qs src z h room n a b c d e ss s) l
+
+-- the call
+pub called-read : (b : Buffers) (s : List ℕ) (r : Answer) (x : Buffers) → short b ≡ false → (y : Statements) → y ≡ codedStatements (sourceStatements s) → y ≡ Accepted → ((ss : List Stmt) → statements s ≡ ok ss → Leaves (passes (lentWords (b .words) (b .marks)) ss) b r x) → Assembled b s r x
+called-read b s r x i y h e l = let g = readable s y h e in read-leaves b s r x i g (l (g .stmts) (g .read))
+
+-- an array of 4,096 zeros holds a table of pass one
+pub table-long : 4096 ≤ length (zeros 4096)
+table-long = rw (length-replicate {A = ℕ} 4096 0) (omega arith)

@@ -5,6 +5,7 @@ use mathlib.Core.List.{List, [], map}
 use mathlib.Core.Option.{none}
 use Prim.Native.Nat.{ℕ, _≤_}
 use lib.Dec.{leb}
+use lib.ListN.{length}
 use Rattle.rules.specs.Base.{if_then_else_, Outcome, ok, refused, refuse, require, _>>=_, _>>_, Span, span, nowhere}
 use Rattle.rules.specs.Answers.{answer}
 use Rattle.rules.specs.Answers as rule
@@ -16,6 +17,9 @@ use Rattle.rules.specs.Buffers.{Buffers, short, lentWords, layout}
 use Rattle.rules.specs.Passes.{One, one, passOne, two, passTwo, assemble}
 use Rattle.counter.specs.declared.One as code
 use Rattle.emitting.specs.declared.Two.{Two}
+use Rattle.emitting.specs.declared.Emitted.{Emitted}
+use Rattle.symbols.specs.Symbols.{Growing}
+use Rattle.pass_two.specs.Passing.{PassedTwo}
 use Rattle.filling.specs.Tables.{seen, Held}
 use Rattle.asm.specs.declared.Answer.{Answer}
 
@@ -77,3 +81,26 @@ pub record Begun (rs qs s : List ℕ) (o : code.One) : Type 0 where
   pub readable : Readable s
   pub held : Held rs qs s o
   pub first : passOne (readable .stmts) (one none [] [] 0 0) ≡ ok (seen rs qs s o)
+
+-- and whose words the lent ones hold
+pub record Roomy (rs s : List ℕ) (n : ℕ) (bs ws ms : List ℕ) : Type 0 where
+  pub stmts : List Stmt
+  pub read : statements s ≡ ok stmts
+  pub final : One
+  pub passed : passOne stmts (one none [] [] 0 0) ≡ ok final
+  pub table : Growing rs s n
+  pub size : length s ≤ 262144
+  pub room : 128 ≤ length bs
+  pub words : final .words ≤ length ws
+  pub marks : final .words ≤ length ms
+
+-- pass two, beside places of .orig that it keeps for itself
+pub record Wrote (rs s : List ℕ) (n : ℕ) (bs ws ms : List ℕ) (r : Emitted) : Type 0 where
+  pub origs : List ℕ
+  pub passed : PassedTwo rs s n bs origs ws ms r
+
+-- tables and names as long as 42 asks
+pub record Tall (ls rel ns : List ℕ) : Type 0 where
+  pub labels : 4096 ≤ length ls
+  pub relocs : 2048 ≤ length rel
+  pub names : 65536 ≤ length ns
