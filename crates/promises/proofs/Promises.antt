@@ -70,6 +70,11 @@ use Rattle.lookup.specs.Told.{said, Reversed}
 use Rattle.lookup.specs.declared.Said.{Said}
 use Rattle.lookup.specs.declared.Found.{Found}
 use Rattle.lookup.proofs.Once as Lookup
+use Rattle.rules.specs.Answers.{numbers, answer}
+use Rattle.asm.specs.Call.{called, left}
+use Rattle.lc3_answers.specs.Told as Told
+use Rattle.lc3.specs.Calls as Calls
+use Rattle.lc3.specs.Calls.{checked, ListCall, LookupCall, RevLookupCall}
 
 -- TOKENS. Each token is the longest match of the patterns of lex.rs at its place, at equal length of the pattern declared first:
 -- a number or register before a word. It is so of every first byte and every rest, and there is one longest match only.
@@ -220,3 +225,34 @@ offset-one-answer = Words.offset-one-answer
 
 pub value-one-answer : (f : Range) (d : ℕ) (r s : Encoded) → r ≡ encoded (R.bits (R.num f) (R.value d)) → s ≡ encoded (R.bits (R.num f) (R.value d)) → r ≡ s
 value-one-answer = Words.value-one-answer
+
+-- THE CALLS FROM OTHER LANGUAGES, crate `lc3`. Two answers of nine numbers that a contract allows are equal: `lc3_next_token`; `lc3_first_refusal`; `lc3_disassemble`;
+-- `lc3_assemble`, and the six buffers too; `lc3_list`, and its buffer of text too; `lc3_lookup_label`; `lc3_rev_lookup_label`.
+pub lc3-next-token-one-answer :
+    (s : List ℕ) (at : ℕ) (x y : List ℕ) → x ≡ numbers (Told.nextTold (coded (nextToken s at))) → y ≡ numbers (Told.nextTold (coded (nextToken s at))) → x ≡ y
+lc3-next-token-one-answer s at x y p q = p ∙ sym q
+
+pub lc3-first-refusal-one-answer :
+    (s x y : List ℕ) → x ≡ numbers (checked (sourceStatements s)) → y ≡ numbers (checked (sourceStatements s)) → x ≡ y
+lc3-first-refusal-one-answer s x y p q = p ∙ sym q
+
+pub lc3-disassemble-one-answer : (w : ℕ) (x y : List ℕ) → x ≡ numbers (Told.lineTold (line w)) → y ≡ numbers (Told.lineTold (line w)) → x ≡ y
+lc3-disassemble-one-answer w x y p q = p ∙ sym q
+
+pub lc3-assemble-one-answer : (b : Buffers) (s x y : List ℕ) → x ≡ numbers (answer (called b s)) → y ≡ numbers (answer (called b s)) → x ≡ y
+lc3-assemble-one-answer b s x y p q = p ∙ sym q
+
+pub lc3-assemble-one-object : (b : Buffers) (s : List ℕ) (x y : Buffers) → x ≡ left (called b s) b → y ≡ left (called b s) b → x ≡ y
+lc3-assemble-one-object b s x y p q = p ∙ sym q
+
+pub lc3-list-one-answer : (c : Counts) (b : Buffers) (len : ℕ) (t u x y : List ℕ) → ListCall c b len t x → ListCall c b len u y → x ≡ y
+lc3-list-one-answer c b len t u x y = Calls.list-call-once
+
+pub lc3-list-one-buffer : (c : Counts) (b : Buffers) (len : ℕ) (t u x y : List ℕ) → ListCall c b len t x → ListCall c b len u y → t ≡ u
+lc3-list-one-buffer c b len t u x y = Calls.list-text-once
+
+pub lc3-lookup-label-one-answer : (c : Counts) (b : Buffers) (m x y : List ℕ) → LookupCall c b m x → LookupCall c b m y → x ≡ y
+lc3-lookup-label-one-answer c b m x y = Calls.lookup-call-once
+
+pub lc3-rev-lookup-label-one-answer : (c : Counts) (b : Buffers) (a : ℕ) (x y : List ℕ) → RevLookupCall c b a x → RevLookupCall c b a y → x ≡ y
+lc3-rev-lookup-label-one-answer c b a x y = Calls.rev-lookup-call-once

@@ -1,0 +1,91 @@
+-- What each call puts is what its contract says. Assumes nothing.
+use Prim.Native.Nat.{ℕ, _+_, _*_, _≤_}
+use mathlib.Core.Path.{_≡_, refl, sym, _∙_, ap}
+use mathlib.Core.List.{List}
+use mathlib.Core.Option.{Option}
+use native.Mathlib.Omega.{arith}
+use lib.ListN.{length}
+use Rattle.rules.specs.Base.{Span, Outcome, ok, refused, span}
+use Rattle.rules.specs.Statements.{Stmt}
+use Rattle.rules.specs.Objects.{Object, Name, Counts, lookupLabel}
+use Rattle.rules.specs.Words as R
+use Rattle.rules.specs.Buffers.{Buffers, view, Valid}
+use Rattle.rules.specs.Answers.{Answer, answer, noCounts, numbers}
+use Rattle.token.specs.declared.Next.{Next}
+use Rattle.parse.specs.Coded.{codedStatements, sourceStatements}
+use Rattle.parse.specs.declared.Statements.{Statements}
+use Rattle.object.specs.Lent.{Lent, too-short, bad-object, on-object}
+use Rattle.list.specs.Call.{Called}
+use Rattle.list.specs.declared.Listed.{Listed}
+use Rattle.lookup.specs.Told.{said, found, Reversed}
+use Rattle.lookup.specs.declared.Said.{Said}
+use Rattle.lookup.specs.declared.Found.{Found}
+use Rattle.lookup.specs.declared.Found.the-variants as find
+use Rattle.asm.proofs.Single.{Single, source-single}
+use Rattle.asm.specs.Call.{Leaves}
+use Rattle.asm.specs.declared.Answer as asm
+use Rattle.lc3_answers.specs.declared.Reply.{Reply}
+use Rattle.lc3_answers.specs.Told.{reply, row, four, answered, nextTold, statementsTold, listedTold, saidTold, RowIn, foundTold, lineTold}
+use Rattle.lc3.specs.Calls.{checked, ListCall, LookupCall, RevLookupCall}
+
+-- the numbers put are those of the answer
+put : {r : Reply} {a : Answer} {out : List ℕ} → r ≡ reply a → out ≡ row r → out ≡ numbers a
+unfolding numbers
+put e p = p ∙ ap row e
+
+-- a refusal of tokens or statements has one place
+told-checked : (o : Outcome (List Stmt)) → Single o → statementsTold (codedStatements o) ≡ checked o
+unfolding codedStatements
+told-checked (ok ss) h = refl
+told-checked (refused r) h = ap (λ (q : Span). answered (r .number) (r .first) q noCounts) (sym h)
+
+source-checked : (s : List ℕ) → statementsTold (codedStatements (sourceStatements s)) ≡ checked (sourceStatements s)
+unfolding sourceStatements
+source-checked s = told-checked (sourceStatements s) (source-single s)
+
+module _ {r : Reply} {out : List ℕ} (p : out ≡ row r) where
+  pub next-put : {n m : Next} → n ≡ m → r ≡ reply (nextTold n) → out ≡ numbers (nextTold m)
+  next-put q e = put (e ∙ ap (λ (x : Next). reply (nextTold x)) q) p
+
+  pub statements-put : {n : Statements} (s : List ℕ) → n ≡ codedStatements (sourceStatements s) → r ≡ reply (statementsTold n) → out ≡ numbers (checked (sourceStatements s))
+  statements-put s q e = put (e ∙ (ap (λ (x : Statements). reply (statementsTold x)) q ∙ ap reply (source-checked s))) p
+
+  pub line-put : {n m : R.Line} → n ≡ m → r ≡ reply (lineTold n) → out ≡ numbers (lineTold m)
+  line-put q e = put (e ∙ ap (λ (x : R.Line). reply (lineTold x)) q) p
+
+  pub assembled-put : {o : Outcome Object} {b b′ : Buffers} {a : asm.Answer} → Leaves o b a b′
+      → r ≡ reply (answered (a .number) (span (a .start) (a .end)) (span (a .start2) (a .end2)) (four (a .blocks) (a .words) (a .labels) (a .relocations))) → out ≡ numbers (answer o)
+  assembled-put l e = put (e ∙ ap reply (l .answer)) p
+
+  module _ {c : Counts} {b : Buffers} where
+    pub list-put : {len : ℕ} {x : List ℕ} {l : Listed} → Called c b len l x → r ≡ reply (listedTold l) → ListCall c b len x out
+    list-put {l = l} q e = record { listed = l; called = q; told = put e p }
+
+    pub lookup-put : {m : List ℕ} (s : Said) → Lent c b (ok (lookupLabel (view c b) m)) (said s) → r ≡ reply (saidTold (said s)) → LookupCall c b m out
+    lookup-put s q e = record { said = said s; lent = q; told = put e p }
+
+    pub rev-lookup-put : {a : ℕ} {f : Found} → Reversed c b a f → r ≡ reply (foundTold (b .labels) f) → RevLookupCall c b a out
+    rev-lookup-put {f = f} q e = record { found = f; reversed = q; told = put e p }
+
+-- a row that is found lies in the table
+abbrev tag : Outcome (Option Name) → ℕ
+tag (ok o) = 0
+tag (refused r) = r .number
+
+valid-of : {c : Counts} {b : Buffers} {rule : Outcome (Option Name)} (k : ℕ) → Lent c b rule (found (b .labels) (b .names) (find.Row k)) → Valid c b
+valid-of k (too-short p e) = absurd (let z = ap tag e in omega arith)
+valid-of k (bad-object p n e) = absurd (let z = ap tag e in omega arith)
+valid-of k (on-object p v e) = v
+
+pub row-in : {c : Counts} {b : Buffers} {a : ℕ} (f : Found) → Reversed c b a f → RowIn (length (b .labels)) f
+row-in {c} {b} {a} f q = record { row = go f q }
+  where
+    go : (f : Found) → Reversed c b a f → (k : ℕ) → f ≡ find.Row k → k * 4 + 4 ≤ length (b .labels)
+    go (find.Row j) q k e =
+        let z : j ≡ k = cc in
+        let room = valid-of j (q .name) .labels .room in
+        let l = q .row j refl in
+        omega arith
+    go find.Nothing q k e = let z : _≡_ {A = ℕ} 0 1 = cc in absurd (omega arith)
+    go find.ShortBuffer q k e = let z : _≡_ {A = ℕ} 0 1 = cc in absurd (omega arith)
+    go find.BadObject q k e = let z : _≡_ {A = ℕ} 0 1 = cc in absurd (omega arith)

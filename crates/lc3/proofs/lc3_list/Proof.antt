@@ -1,0 +1,15 @@
+-- `lc3::lc3_list` meets its contract. Assumes nothing.
+use borrow.Author.Needs.{needs}
+use Rattle.lc3.proofs.Told.{list-put}
+use Rattle.lc3.proofs.lc3_list.Statement.{statement}
+use Rattle.lc3.proofs.lc3_list.Tie as tie
+
+pub lc3-list-spec : {M : Type 1} → statement M
+lc3-list-spec =
+    tie.close
+    (tie.spec
+    (λ c κs. search needs)
+    (λ c κs. search needs)
+    (λ c κs. search needs)
+    (λ c. search needs)
+    (λ c. list-put (c .put-answer .ensures) (c .before .before .before .before .before .list .ensures) (c .before .told-listed .ensures)))

@@ -1,0 +1,55 @@
+-- What the statements of a source and each call on a lent object leave in the nine numbers, and that two such answers are equal. Assumes nothing.
+use Prim.Native.Nat.{ℕ}
+use mathlib.Core.Path.{_≡_, sym, _∙_, ap}
+use mathlib.Core.List.{List}
+use mathlib.Core.Option.{Option}
+use Rattle.rules.specs.Base.{Outcome, ok, refused}
+use Rattle.rules.specs.Statements.{Stmt}
+use Rattle.rules.specs.Objects.{Lab, Counts, lookupLabel}
+use Rattle.rules.specs.Buffers.{Buffers, view}
+use Rattle.rules.specs.Answers.{Answer, numbers, accepted, noCounts, refusal}
+use Rattle.object.specs.Lent.{Lent, lent-once}
+use Rattle.list.specs.Call.{Called, one-answer, one-buffer}
+use Rattle.list.specs.declared.Listed.{Listed}
+use Rattle.lookup.specs.Told.{Reversed}
+use Rattle.lookup.specs.declared.Found.{Found}
+use Rattle.lookup.proofs.Once.{found-once}
+use Rattle.lc3_answers.specs.Told.{listedTold, saidTold, foundTold}
+
+-- all statements of a source, with no counts
+abbrev pub checked : Outcome (List Stmt) → Answer
+checked (ok ss) = accepted noCounts
+checked (refused r) = refusal r
+
+-- the listing, its bytes in `text` of `len` bytes, zeros after them
+pub record ListCall (c : Counts) (b : Buffers) (len : ℕ) (text out : List ℕ) : Type 0 where
+  pub listed : Listed
+  pub called : Called c b len listed text
+  pub told : out ≡ numbers (listedTold listed)
+
+-- what the object says of the name m
+pub record LookupCall (c : Counts) (b : Buffers) (m : List ℕ) (out : List ℕ) : Type 0 where
+  pub said : Outcome (Option Lab)
+  pub lent : Lent c b (ok (lookupLabel (view c b) m)) said
+  pub told : out ≡ numbers (saidTold said)
+
+-- the label at the address a
+pub record RevLookupCall (c : Counts) (b : Buffers) (a : ℕ) (out : List ℕ) : Type 0 where
+  pub found : Found
+  pub reversed : Reversed c b a found
+  pub told : out ≡ numbers (foundTold (b .labels) found)
+
+-- TWO ANSWERS THAT A CONTRACT ALLOWS ARE EQUAL
+module _ {c : Counts} {b : Buffers} where
+  pub list-call-once : {len : ℕ} {x y out also : List ℕ} → ListCall c b len x out → ListCall c b len y also → out ≡ also
+  list-call-once p q = p .told ∙ (ap (λ (r : Listed). numbers (listedTold r)) (one-answer (p .called) (q .called)) ∙ sym (q .told))
+
+  pub list-text-once : {len : ℕ} {x y out also : List ℕ} → ListCall c b len x out → ListCall c b len y also → x ≡ y
+  list-text-once p q = one-buffer (p .called) (q .called)
+
+  pub lookup-call-once : {m out also : List ℕ} → LookupCall c b m out → LookupCall c b m also → out ≡ also
+  lookup-call-once p q = p .told ∙ (ap (λ (o : Outcome (Option Lab)). numbers (saidTold o)) (lent-once (p .lent) (q .lent)) ∙ sym (q .told))
+
+  pub rev-lookup-call-once : {a : ℕ} {out also : List ℕ} → RevLookupCall c b a out → RevLookupCall c b a also → out ≡ also
+  rev-lookup-call-once {a} p q =
+      p .told ∙ (ap (λ (r : Found). numbers (foundTold (b .labels) r)) (found-once c b a (p .found) (q .found) (p .reversed) (q .reversed)) ∙ sym (q .told))

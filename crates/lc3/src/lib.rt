@@ -1,0 +1,163 @@
+// The functions for other languages. A slice passes as a pointer and a length; every answer goes to `out`: the number, two spans and four counts.
+use object::Counts;
+ghost use mathlib.Core.Path.{_≡_};
+ghost use lib.ListN.{length};
+ghost use Rattle.rules.specs.Tokens.{nextToken};
+ghost use Rattle.rules.specs.Words.{line};
+ghost use Rattle.rules.specs.Buffers.{six};
+ghost use Rattle.rules.specs.Answers.{numbers, answer};
+ghost use Rattle.token.specs.Coded.{coded};
+ghost use Rattle.parse.specs.Coded.{sourceStatements};
+ghost use Rattle.asm.specs.Call.{called, left};
+ghost use Rattle.lc3_answers.specs.Told.{four, nextTold, lineTold};
+ghost use Rattle.lc3.specs.Calls.{checked, ListCall, LookupCall, RevLookupCall};
+
+// The next token from `at` on: its place, its sort and its value; or its refusal.
+#[no_mangle]
+pub extern "C" fn lc3_next_token(src: &[u8], at: usize, out: &mut [u64; 9])
+    ensures { λ _. ⌜ now (out .exit) ≡ numbers (nextTold (coded (nextToken (now (src .entry)) at))) ⌝ }
+{
+    lc3_answers::put_answer(out, lc3_answers::told_next(lex::next_token(src, at)));
+}
+
+// The first refusal of a source: 11, 12, 1 to 10, then 13 to 16.
+#[no_mangle]
+pub extern "C" fn lc3_first_refusal(src: &[u8], out: &mut [u64; 9])
+    ensures { λ _. ⌜ now (out .exit) ≡ numbers (checked (sourceStatements (now (src .entry)))) ⌝ }
+{
+    lc3_answers::put_answer(out, lc3_answers::told_statements(parse::check_source(src)));
+}
+
+// The instruction of a word by its code and operands, or 255 and the word of a .fill.
+#[no_mangle]
+pub extern "C" fn lc3_disassemble(word: u16, out: &mut [u64; 9])
+    ensures { λ _. ⌜ now (out .exit) ≡ numbers (lineTold (line word)) ⌝ }
+{
+    lc3_answers::put_answer(
+        out,
+        lc3_answers::told_line(words::disassembly::disassemble_line(word)),
+    );
+}
+
+// Any source to an object in the lent buffers: the counts of blocks, words, labels and relocations; or one refusal, and every buffer zero.
+#[no_mangle]
+pub extern "C" fn lc3_assemble(
+    src: &[u8],
+    blocks: &mut [u16],
+    words: &mut [u16],
+    marks: &mut [u8],
+    labels: &mut [u32],
+    relocations: &mut [u32],
+    names: &mut [u8],
+    out: &mut [u64; 9],
+)
+    ensures { λ _. ⌜ now (out .exit) ≡ numbers (answer (called (six (now (blocks .entry)) (now (words .entry)) (now (marks .entry)) (now (labels .entry)) (now (relocations .entry)) (now (names .entry))) (now (src .entry)))) ⌝ }
+    ensures { λ _. ⌜ six (now (blocks .exit)) (now (words .exit)) (now (marks .exit)) (now (labels .exit)) (now (relocations .exit)) (now (names .exit)) ≡ left (called (six (now (blocks .entry)) (now (words .entry)) (now (marks .entry)) (now (labels .entry)) (now (relocations .entry)) (now (names .entry))) (now (src .entry))) (six (now (blocks .entry)) (now (words .entry)) (now (marks .entry)) (now (labels .entry)) (now (relocations .entry)) (now (names .entry))) ⌝ }
+{
+    let a = asm::assemble(src, blocks, words, marks, labels, relocations, names);
+    let r = lc3_answers::told_answer(
+        a.number,
+        a.start,
+        a.end,
+        a.start2,
+        a.end2,
+        a.blocks,
+        a.words,
+        a.labels,
+        a.relocations,
+    );
+    lc3_answers::put_answer(out, r);
+}
+
+// The listing of a lent object, into `text`: how many bytes; or 42, 43 or 51.
+#[no_mangle]
+pub extern "C" fn lc3_list(
+    n_blocks: usize,
+    n_words: usize,
+    n_labels: usize,
+    n_relocations: usize,
+    blocks: &[u16],
+    words: &[u16],
+    marks: &[u8],
+    labels: &[u32],
+    relocations: &[u32],
+    names: &[u8],
+    text: &mut [u8],
+    out: &mut [u64; 9],
+)
+    ensures { λ _. ⌜ ListCall (four «n_blocks» «n_words» «n_labels» «n_relocations») (six (now (blocks .entry)) (now (words .entry)) (now (marks .entry)) (now (labels .entry)) (now (relocations .entry)) (now (names .entry))) (length (now (text .entry))) (now (text .exit)) (now (out .exit)) ⌝ }
+{
+    let c = Counts {
+        blocks: n_blocks,
+        words: n_words,
+        labels: n_labels,
+        relocations: n_relocations,
+    };
+    let listed = list::list(c, blocks, words, marks, labels, relocations, names, text);
+    lc3_answers::put_answer(out, lc3_answers::told_listed(listed));
+}
+
+// What a lent object says of a name: found, external, the address; or 42 or 43.
+#[no_mangle]
+pub extern "C" fn lc3_lookup_label(
+    n_blocks: usize,
+    n_words: usize,
+    n_labels: usize,
+    n_relocations: usize,
+    blocks: &[u16],
+    words: &[u16],
+    marks: &[u8],
+    labels: &[u32],
+    relocations: &[u32],
+    names: &[u8],
+    name: &[u8],
+    out: &mut [u64; 9],
+)
+    ensures { λ _. ⌜ LookupCall (four «n_blocks» «n_words» «n_labels» «n_relocations») (six (now (blocks .entry)) (now (words .entry)) (now (marks .entry)) (now (labels .entry)) (now (relocations .entry)) (now (names .entry))) (now (name .entry)) (now (out .exit)) ⌝ }
+{
+    let c = Counts {
+        blocks: n_blocks,
+        words: n_words,
+        labels: n_labels,
+        relocations: n_relocations,
+    };
+    let said = lookup::lookup_label(c, blocks, words, marks, labels, relocations, names, name);
+    lc3_answers::put_answer(out, lc3_answers::told_said(said));
+}
+
+// The label of a lent object at an address: found, its row, its name's start and length; or 42 or 43.
+#[no_mangle]
+pub extern "C" fn lc3_rev_lookup_label(
+    n_blocks: usize,
+    n_words: usize,
+    n_labels: usize,
+    n_relocations: usize,
+    blocks: &[u16],
+    words: &[u16],
+    marks: &[u8],
+    labels: &[u32],
+    relocations: &[u32],
+    names: &[u8],
+    address: u32,
+    out: &mut [u64; 9],
+)
+    ensures { λ _. ⌜ RevLookupCall (four «n_blocks» «n_words» «n_labels» «n_relocations») (six (now (blocks .entry)) (now (words .entry)) (now (marks .entry)) (now (labels .entry)) (now (relocations .entry)) (now (names .entry))) address (now (out .exit)) ⌝ }
+{
+    let c = Counts {
+        blocks: n_blocks,
+        words: n_words,
+        labels: n_labels,
+        relocations: n_relocations,
+    };
+    let found = lookup::rev_lookup_label(
+        c,
+        blocks,
+        words,
+        marks,
+        labels,
+        relocations,
+        names,
+        address,
+    );
+    lc3_answers::put_answer(out, lc3_answers::told_found(labels, found));
+}

@@ -1,0 +1,17 @@
+-- `lc3_answers::told_listed` meets its contract. Assumes nothing.
+use borrow.Author.Needs.{needs}
+use Rattle.lc3_answers.proofs.told_listed.Statement.{statement}
+use Rattle.lc3_answers.proofs.told_listed.Tie as tie
+
+pub told-listed-spec : {M : Type 1} → statement M
+told-listed-spec =
+    tie.close
+    (tie.spec
+    (λ c. search needs)
+    (λ c κs. search needs)
+    (λ c κs. search needs)
+    (λ c. search needs)
+    (λ c κs. search needs)
+    (λ c κs. search needs)
+    (λ c. rw (c .before .before .before .listed .given .1) (rw (c .before .wide .ensures) at (c .accepted .ensures)))
+    (λ c. rw (c .before .before .before .listed2 .given .1) (rw (c .before .wide8 .ensures) at (c .refused .ensures))))

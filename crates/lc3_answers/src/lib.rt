@@ -1,0 +1,307 @@
+// The answers of the calls from other languages, as nine numbers: a number, two spans and four counts.
+use list::Listed;
+use lookup::Found;
+use lookup::Said;
+use parse::Statements;
+use reserved::Ident;
+use token::Next;
+use token::Token;
+use words::AsmInstr;
+use words::ImmOrReg;
+use words::disassembly::Line;
+ghost use mathlib.Core.Path.{_≡_};
+ghost use Prim.Native.Nat.{_+_, _*_, _≤_};
+ghost use lib.ListN.{length, getD};
+ghost use Rattle.rules.specs.Base.{span};
+ghost use Rattle.words.specs.Instructions.{meant, operandOf};
+ghost use Rattle.words.specs.Disassembly.{meantLine};
+ghost use Rattle.lexeme.specs.Sorts.{lexeme, flatIdent, flatToken};
+ghost use Rattle.lookup.specs.Told.{said};
+ghost use Rattle.lc3_answers.specs.Told.{reply, row, four, answered, counted, refusedAt, tokenTold, nextTold, statementsTold, listedTold, saidTold, RowIn, foundTold, operandTold, instrTold, lineTold};
+
+pub struct Reply {
+    pub number: u64,
+    pub start: u64,
+    pub end: u64,
+    pub start2: u64,
+    pub end2: u64,
+    pub first: u64,
+    pub second: u64,
+    pub third: u64,
+    pub fourth: u64,
+}
+
+// The nine numbers, to where they are asked for.
+pub fn put_answer(out: &mut [u64; 9], r: Reply)
+    ensures { λ _. ⌜ now (out .exit) ≡ row r ⌝ }
+{
+    *out = [
+        r.number,
+        r.start,
+        r.end,
+        r.start2,
+        r.end2,
+        r.first,
+        r.second,
+        r.third,
+        r.fourth,
+    ];
+}
+
+fn wide(x: usize) -> u64
+    ensures { λ r. ⌜ r ≡ x ⌝ }
+{
+    x as u64
+}
+
+fn wide8(x: u8) -> u64
+    ensures { λ r. ⌜ r ≡ x ⌝ }
+{
+    x as u64
+}
+
+fn wide16(x: u16) -> u64
+    ensures { λ r. ⌜ r ≡ x ⌝ }
+{
+    x as u64
+}
+
+fn wide32(x: u32) -> u64
+    ensures { λ r. ⌜ r ≡ x ⌝ }
+{
+    x as u64
+}
+
+// Acceptance with these counts.
+fn accepted(first: u64, second: u64, third: u64, fourth: u64) -> Reply
+    ensures { λ r. ⌜ r ≡ reply (counted first second third fourth) ⌝ }
+{
+    Reply {
+        number: 0,
+        start: 0,
+        end: 0,
+        start2: 0,
+        end2: 0,
+        first,
+        second,
+        third,
+        fourth,
+    }
+}
+
+// A refusal with one place.
+fn refused(number: u64, start: usize, end: usize) -> Reply
+    ensures { λ r. ⌜ r ≡ reply (refusedAt number (span start end)) ⌝ }
+{
+    Reply {
+        number,
+        start: wide(start),
+        end: wide(end),
+        start2: 0,
+        end2: 0,
+        first: 0,
+        second: 0,
+        third: 0,
+        fourth: 0,
+    }
+}
+
+// An answer with two places and four counts.
+pub fn told_answer(
+    number: u16,
+    start: usize,
+    end: usize,
+    start2: usize,
+    end2: usize,
+    first: usize,
+    second: usize,
+    third: usize,
+    fourth: usize,
+) -> Reply
+    ensures { λ r. ⌜ r ≡ reply (answered number (span start end) (span start2 end2) (four first second third fourth)) ⌝ }
+{
+    Reply {
+        number: wide16(number),
+        start: wide(start),
+        end: wide(end),
+        start2: wide(start2),
+        end2: wide(end2),
+        first: wide(first),
+        second: wide(second),
+        third: wide(third),
+        fourth: wide(fourth),
+    }
+}
+
+// A token by its sort and value, at its place.
+fn told_token(sort: u64, value: u64, start: usize, end: usize) -> Reply
+    ensures { λ r. ⌜ r ≡ reply (tokenTold (lexeme sort value start end)) ⌝ }
+{
+    Reply {
+        number: 0,
+        start: wide(start),
+        end: wide(end),
+        start2: 0,
+        end2: 0,
+        first: sort,
+        second: value,
+        third: 0,
+        fourth: 0,
+    }
+}
+
+fn told_ident(ident: Ident, start: usize, end: usize) -> Reply
+    ensures { λ r. ⌜ r ≡ reply (tokenTold (flatIdent ident start end)) ⌝ }
+{
+    match ident {
+        Ident::Reserved(code) => told_token(5, wide8(code), start, end),
+        Ident::Label => told_token(3, 0, start, end),
+    }
+}
+
+fn told_kind(token: Token, start: usize, end: usize) -> Reply
+    ensures { λ r. ⌜ r ≡ reply (tokenTold (flatToken token start end)) ⌝ }
+{
+    match token {
+        Token::Unsigned(n) => told_token(0, wide16(n), start, end),
+        Token::Signed(n) => told_token(1, wide16(n), start, end),
+        Token::Reg(n) => told_token(2, wide8(n), start, end),
+        Token::Ident(ident) => told_ident(ident, start, end),
+        Token::String => told_token(4, 0, start, end),
+        Token::Directive => told_token(6, 0, start, end),
+        Token::Colon => told_token(7, 0, start, end),
+        Token::Comma => told_token(8, 0, start, end),
+        Token::NewLine => told_token(9, 0, start, end),
+    }
+}
+
+// The answer of looking for the next token.
+pub fn told_next(next: Next) -> Reply
+    ensures { λ r. ⌜ r ≡ reply (nextTold next) ⌝ }
+{
+    match next {
+        Next::Took { token, start, end } => told_kind(token, start, end),
+        Next::End(at) => told_token(10, 0, at, at),
+        Next::Refused { number, start, end } => refused(wide8(number), start, end),
+    }
+}
+
+// The answer of reading all statements.
+pub fn told_statements(statements: Statements) -> Reply
+    ensures { λ r. ⌜ r ≡ reply (statementsTold statements) ⌝ }
+{
+    match statements {
+        Statements::Accepted => accepted(0, 0, 0, 0),
+        Statements::Refused { number, start, end } => refused(wide16(number), start, end),
+    }
+}
+
+// The answer of listing.
+pub fn told_listed(listed: Listed) -> Reply
+    ensures { λ r. ⌜ r ≡ reply (listedTold listed) ⌝ }
+{
+    match listed {
+        Listed::Bytes(n) => accepted(wide(n), 0, 0, 0),
+        Listed::Refused(number) => refused(wide8(number), 0, 0),
+    }
+}
+
+// The answer of looking up a name.
+pub fn told_said(s: Said) -> Reply
+    ensures { λ r. ⌜ r ≡ reply (saidTold (said s)) ⌝ }
+{
+    match s {
+        Said::Defined(address) => accepted(1, 0, wide32(address), 0),
+        Said::External => accepted(1, 1, 0, 0),
+        Said::Nothing => accepted(0, 0, 0, 0),
+        Said::ShortBuffer => refused(42, 0, 0),
+        Said::BadObject => refused(43, 0, 0),
+    }
+}
+
+// A label row, with its name's start and length.
+fn told_row(labels: &[u32], k: usize) -> Reply
+    requires { ⌜ k * 4 + 4 ≤ length (now labels) ⌝ }
+    ensures { λ r. ⌜ r ≡ reply (counted 1 k (getD (now (labels .entry)) (k * 4 + 2) 0) (getD (now (labels .entry)) (k * 4 + 3) 0)) ⌝ }
+{
+    let i = k * 4;
+    accepted(1, wide(k), wide32(labels[i + 2]), wide32(labels[i + 3]))
+}
+
+// The answer of looking up an address.
+pub fn told_found(labels: &[u32], found: Found) -> Reply
+    requires { ⌜ RowIn (length (now labels)) found ⌝ }
+    ensures { λ r. ⌜ r ≡ reply (foundTold (now (labels .entry)) found) ⌝ }
+{
+    match found {
+        Found::Row(k) => told_row(labels, k),
+        Found::Nothing => accepted(0, 0, 0, 0),
+        Found::ShortBuffer => refused(42, 0, 0),
+        Found::BadObject => refused(43, 0, 0),
+    }
+}
+
+// The last operand of ADD and AND: a register's number, or 65536 and an immediate's bits.
+fn told_operand(operand: ImmOrReg) -> u64
+    ensures { λ r. ⌜ r ≡ operandTold (operandOf operand) ⌝ }
+{
+    match operand {
+        ImmOrReg::Imm(d) => 65536 + wide16(d),
+        ImmOrReg::Reg(r) => wide16(r),
+    }
+}
+
+// An instruction by its code and operands.
+fn shown(code: u64, a: u16, b: u16, c: u16) -> Reply
+    ensures { λ r. ⌜ r ≡ reply (counted code a b c) ⌝ }
+{
+    accepted(code, wide16(a), wide16(b), wide16(c))
+}
+
+fn shown_last(code: u64, a: u16, b: u16, c: ImmOrReg) -> Reply
+    ensures { λ r. ⌜ r ≡ reply (counted code a b (operandTold (operandOf c))) ⌝ }
+{
+    accepted(code, wide16(a), wide16(b), told_operand(c))
+}
+
+fn told_instr(instr: AsmInstr) -> Reply
+    ensures { λ r. ⌜ r ≡ reply (instrTold (meant instr)) ⌝ }
+{
+    match instr {
+        AsmInstr::ADD(d, s, o) => shown_last(0, d, s, o),
+        AsmInstr::AND(d, s, o) => shown_last(1, d, s, o),
+        AsmInstr::BR(nzp, o) => shown(2, nzp, o, 0),
+        AsmInstr::JMP(b) => shown(3, b, 0, 0),
+        AsmInstr::JSR(o) => shown(4, o, 0, 0),
+        AsmInstr::JSRR(b) => shown(5, b, 0, 0),
+        AsmInstr::LD(d, o) => shown(6, d, o, 0),
+        AsmInstr::LDI(d, o) => shown(7, d, o, 0),
+        AsmInstr::LDR(d, b, o) => shown(8, d, b, o),
+        AsmInstr::LEA(d, o) => shown(9, d, o, 0),
+        AsmInstr::NOT(d, s) => shown(10, d, s, 0),
+        AsmInstr::RET => shown(11, 0, 0, 0),
+        AsmInstr::RTI => shown(12, 0, 0, 0),
+        AsmInstr::ST(s, o) => shown(13, s, o, 0),
+        AsmInstr::STI(s, o) => shown(14, s, o, 0),
+        AsmInstr::STR(s, b, o) => shown(15, s, b, o),
+        AsmInstr::TRAP(v) => shown(16, v, 0, 0),
+        AsmInstr::NOP(o) => shown(17, o, 0, 0),
+        AsmInstr::GETC => shown(18, 0, 0, 0),
+        AsmInstr::OUT => shown(19, 0, 0, 0),
+        AsmInstr::PUTC => shown(20, 0, 0, 0),
+        AsmInstr::PUTS => shown(21, 0, 0, 0),
+        AsmInstr::IN => shown(22, 0, 0, 0),
+        AsmInstr::PUTSP => shown(23, 0, 0, 0),
+        AsmInstr::HALT => shown(24, 0, 0, 0),
+    }
+}
+
+// The answer of disassembly.
+pub fn told_line(line: Line) -> Reply
+    ensures { λ r. ⌜ r ≡ reply (lineTold (meantLine line)) ⌝ }
+{
+    match line {
+        Line::Instr(instr) => told_instr(instr),
+        Line::Fill(word) => shown(255, word, 0, 0),
+    }
+}
