@@ -1,0 +1,98 @@
+//! Holds the library beside the crate lc3-ensemble: `harness compare` and `harness bench`. README.md says what is compared.
+
+mod bench;
+mod compare;
+mod crowded;
+mod fixed;
+mod generate;
+mod grammar;
+mod lent;
+mod random;
+mod reader;
+mod reference;
+mod refusal;
+mod sample;
+mod spelling;
+mod valid;
+
+use compare::Tally;
+use random::Random;
+use sample::Sample;
+
+const USAGE: &str = "\
+usage: harness compare [--count N] [--seed N] [--sample FILE]
+       harness bench
+  compare  N generated sources (default 200,000) and the fixed ones; exit code 1 where anything differs that docs/DIFFERENCES.md does not name
+  --sample writes some of them with their answers, where nothing differs
+  bench    the crate and the library on the same inputs
+";
+
+struct Options {
+    count: usize,
+    seed: u64,
+    sample: Option<String>,
+}
+
+fn options(mut args: impl Iterator<Item = String>) -> Option<Options> {
+    let mut o = Options { count: 200_000, seed: 1, sample: None };
+    while let Some(flag) = args.next() {
+        let value = args.next()?;
+        match &*flag {
+            "--count" => o.count = value.parse().ok()?,
+            "--seed" => o.seed = value.parse().ok()?,
+            "--sample" => o.sample = Some(value),
+            _ => return None,
+        }
+    }
+    Some(o)
+}
+
+/// Runs all sources; true if nothing differs.
+fn compare(o: &Options) -> bool {
+    let (mut tally, mut sample, mut random) = (Tally::new(o.seed), Sample::default(), Random::new(o.seed));
+    compare::words(&mut tally);
+    let fixed = fixed::short().into_iter().chain(fixed::long()).map(|src| (src, true));
+    for (src, fixed) in fixed.chain((0..o.count).map(|_| (generate::source(&mut random), false))) {
+        let answer = tally.source(&src, fixed);
+        if o.sample.is_some() {
+            sample.offer(&src, &answer);
+        }
+    }
+    report(&tally);
+    if let Some(path) = o.sample.as_ref().filter(|_| tally.differences == 0) {
+        let (lines, numbers) = sample.write(path).unwrap_or_else(|e| panic!("{path}: {e}"));
+        println!("{path}: {lines} sources, {numbers} numbers");
+    }
+    tally.differences == 0
+}
+
+fn report(tally: &Tally) {
+    println!("{} sources, {} answers compared", tally.sources, tally.calls);
+    println!("answers by number:");
+    for (number, count) in &tally.by_number {
+        println!("  {number:>2} {count}");
+    }
+    println!("changed objects lent, by number: {:?}", tally.lent);
+    println!("sources on which the crate does otherwise as docs/DIFFERENCES.md names:");
+    for (name, count) in &tally.named {
+        println!("  {count:>7} {name}");
+    }
+    println!("{} differences", tally.differences);
+}
+
+fn main() {
+    refusal::quiet();
+    let mut args = std::env::args().skip(1);
+    let done = match (args.next().as_deref(), options(args)) {
+        (Some("compare"), Some(o)) => compare(&o),
+        (Some("bench"), Some(_)) => {
+            bench::bench();
+            true
+        }
+        _ => {
+            eprint!("{USAGE}");
+            std::process::exit(2);
+        }
+    };
+    std::process::exit(i32::from(!done));
+}

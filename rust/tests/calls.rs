@@ -1,0 +1,73 @@
+//! Each function of the crate on the marked examples of document 01.
+
+use lc3::{assemble, disassemble_line, first_refusal, next_token, tokens, Line, Refusal, Symbol, Token};
+
+const P1: &[u8] = b".orig x3000\nSTART LEA R0, MSG\nPUTS\nHALT\nMSG .stringz \"Hi\"\n.end\n";
+const P1_LISTING: &str = "BLOCK 3000 0006\n3000 E002\n3001 F022\n3002 F025\n3003 0048\n3004 0069\n3005 0000\n\
+    LABEL 3003 MSG\nLABEL 3000 START\n";
+const P2: &[u8] = b".external F\n.orig x3000\nLD R1, P\nJSRR R1\nHALT\nP .fill F\n.end\n";
+
+fn number(src: &str) -> u16 {
+    assemble(src.as_bytes()).map_or_else(|r| r.number, |_| 0)
+}
+
+#[test]
+fn listing() {
+    assert_eq!(assemble(P1).unwrap().list(), P1_LISTING);
+    assert_eq!(assemble(b"").unwrap().list(), "");
+}
+
+#[test]
+fn object() {
+    let o = assemble(P2).unwrap();
+    assert_eq!(o.words(), [0x2202, 0x4040, 0xF025, 0]);
+    assert_eq!(o.labels().collect::<Vec<_>>(), [("F", Symbol::External), ("P", Symbol::Defined(0x3003))]);
+    assert_eq!(o.relocations().collect::<Vec<_>>(), [(0x3003, "F")]);
+    assert_eq!((o.lookup_label("f"), o.lookup_label("P")), (Some(Symbol::External), Some(Symbol::Defined(0x3003))));
+    assert_eq!((o.lookup_label("Q"), o.lookup_label("")), (None, None));
+    assert_eq!((o.rev_lookup_label(0x3003), o.rev_lookup_label(0), o.rev_lookup_label(1)), (Some("P"), Some("F"), None));
+}
+
+#[test]
+fn blocks() {
+    let o = assemble(b".orig 9\nHALT\n.end\n.orig 5\n.fill 7\n.blkw 2\n.end").unwrap();
+    let blocks: Vec<_> = o.blocks().map(|b| (b.start, b.len(), b.words().collect::<Vec<_>>())).collect();
+    assert_eq!(blocks, [(5, 3, vec![Some(7), None, None]), (9, 1, vec![Some(0xF025)])]);
+    assert_eq!(o.addr_iter().collect::<Vec<_>>(), [(5, Some(7)), (6, None), (7, None), (9, Some(0xF025))]);
+}
+
+#[test]
+fn refusals() {
+    assert_eq!(number(".orig xFDFF\nHALT\n.end"), 0);
+    assert_eq!(number(".orig xFE00\nHALT\n.end"), 27);
+    assert_eq!(number(".orig xFFFF\n.blkw 2\n.end"), 26);
+    assert_eq!(number(".external F\n.orig 0\nLD R0, F\n.end"), 30);
+    assert_eq!(number(".fill -32769"), 2);
+    let r = assemble(b".orig 0\nA HALT\nA HALT\n.end").unwrap_err();
+    assert_eq!(r, Refusal { number: 25, spans: [8..9, 15..16] });
+    assert_eq!(r.to_string(), "OverlappingLabels (25) at 8..9 and 15..16");
+    assert_eq!(assemble(b".orig 0\n.blkw 65024\n.end\n.orig 0\nHALT\n.end").unwrap_err().to_string(), "NoRoom (41)");
+    assert_eq!(first_refusal(b"ADD R0, R0").unwrap().to_string(), "BadStatement (13) at 10..10");
+    assert_eq!(first_refusal(b"A HALT"), None);
+    assert_eq!(first_refusal(&[b';'; 262_145]).unwrap().name(), "SourceTooLong");
+}
+
+#[test]
+fn lexing() {
+    let all: Vec<_> = tokens(b"A: add R7, -5 ;c\n.fill \"x\"").map(|t| t.unwrap().0).collect();
+    let word = Token::Reserved("ADD");
+    let line = [Token::Label, Token::Colon, word, Token::Reg(7), Token::Comma, Token::Signed(-5), Token::NewLine];
+    assert_eq!(all, [&line[..], &[Token::Directive, Token::String]].concat());
+    assert_eq!(next_token(b" -32768", 0), Ok(Some((Token::Signed(-32768), 1..7))));
+    assert_eq!(next_token(b"x10 ", 3), Ok(None));
+    assert_eq!(next_token(b"R8", 0).unwrap_err().name(), "InvalidReg");
+    assert_eq!(tokens(b"5 $ 6").count(), 2);
+}
+
+#[test]
+fn disassembly() {
+    let shown = |w: u16| disassemble_line(w).to_string();
+    assert_eq!([0x1021, 0x5042, 0xC1C0, 0x0FFF].map(shown), ["ADD R0, R0, #1", "AND R0, R1, R2", "RET", "BRnzp #-1"]);
+    assert_eq!([0xF021, 0xF0FF, 0x4040].map(shown), ["PUTC", "TRAP xFF", "JSRR R1"]);
+    assert_eq!((disassemble_line(0xD000), disassemble_line(0xC800)), (Line::Fill(0xD000), Line::Fill(0xC800)));
+}
