@@ -1,9 +1,9 @@
--- `lc3_list::print_listed` is safe and ends. Assumes nothing.
+-- `printing::print_listed` is safe and ends. Assumes nothing.
 use mathlib.Core.Path.{sym}
 use lib.Seq.{length-take-le}
 use borrow.Author.Needs.{needs}
-use Rattle.lc3_list.proofs.print_listed.Statement.{statement}
-use Rattle.lc3_list.proofs.print_listed.Tie as tie
+use Rattle.printing.proofs.print_listed.Statement.{statement}
+use Rattle.printing.proofs.print_listed.Tie as tie
 
 enum-known-listed : tie.Need-enum-known-listed
 enum-known-listed c = search needs

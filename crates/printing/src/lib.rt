@@ -1,0 +1,90 @@
+// An assembled source printed on standard output: the object's listing, or REFUSED and the number.
+use asm::Answer;
+use libc::STDOUT_FILENO;
+use list::Listed;
+use object::Counts;
+
+// A refusal's line.
+pub fn print_refused(number: u64) {
+    io::write_all(STDOUT_FILENO, b"REFUSED ");
+    io::print_decimal(STDOUT_FILENO, number);
+    io::write_all(STDOUT_FILENO, b"\n");
+}
+
+// The counts of an accepted object.
+fn counts_of(answer: Answer) -> Counts {
+    Counts {
+        blocks: answer.blocks,
+        words: answer.words,
+        labels: answer.labels,
+        relocations: answer.relocations,
+    }
+}
+
+// What a listing answers: its bytes, which stand in the text, or a refusal.
+fn print_listed(listed: Listed, text: &[u8]) {
+    match listed {
+        Listed::Bytes(n) => {
+            if n <= text.len() {
+                io::write_all(STDOUT_FILENO, &text[..n]);
+            }
+        }
+        Listed::Refused(number) => print_refused(number as u64),
+    }
+}
+
+// The listing of a lent object, whose longest one the text holds.
+fn print_object(
+    c: Counts,
+    blocks: &[u16],
+    words: &[u16],
+    marks: &[u8],
+    labels: &[u32],
+    relocations: &[u32],
+    names: &[u8],
+) {
+    let mut text = [0u8; 482304];
+    let listed = list::list(
+        c,
+        blocks,
+        words,
+        marks,
+        labels,
+        relocations,
+        names,
+        &mut text,
+    );
+    print_listed(listed, &text);
+}
+
+// A source in the program's 32,768 words.
+pub fn print_source(src: &[u8]) {
+    let mut blocks = [0u16; 128];
+    let mut words = [0u16; 32768];
+    let mut marks = [0u8; 32768];
+    let mut labels = [0u32; 4096];
+    let mut relocations = [0u32; 2048];
+    let mut names = [0u8; 65536];
+    let answer = asm::assemble(
+        src,
+        &mut blocks,
+        &mut words,
+        &mut marks,
+        &mut labels,
+        &mut relocations,
+        &mut names,
+    );
+    if answer.number == 0 {
+        print_object(
+            counts_of(answer),
+            &blocks,
+            &words,
+            &marks,
+            &labels,
+            &relocations,
+            &names,
+        );
+        return;
+    }
+    print_refused(answer.number as u64);
+}
