@@ -51,15 +51,16 @@ fn inputs() -> Vec<(&'static str, Vec<Vec<u8>>)> {
     ]
 }
 
-fn best(mut f: impl FnMut()) -> Duration {
-    (0..RUNS)
-        .map(|_| {
-            let start = Instant::now();
-            f();
-            start.elapsed()
-        })
-        .min()
-        .unwrap()
+fn timed(f: &mut dyn FnMut()) -> Duration {
+    let start = Instant::now();
+    f();
+    start.elapsed()
+}
+
+/// The best times of two, run in turns.
+fn best(mut there: impl FnMut(), mut here: impl FnMut()) -> (Duration, Duration) {
+    let runs: Vec<_> = (0..RUNS).map(|_| (timed(&mut there), timed(&mut here))).collect();
+    (runs.iter().map(|r| r.0).min().unwrap(), runs.iter().map(|r| r.1).min().unwrap())
 }
 
 /// Lexer, parser and both passes, without debug symbols; the object keeps its symbols.
@@ -81,20 +82,18 @@ pub fn bench() {
     for (name, files) in inputs() {
         let bytes: usize = files.iter().map(Vec::len).sum();
         let texts: Vec<&str> = files.iter().map(|f| std::str::from_utf8(f).unwrap()).collect();
-        let show = |what: &str, there: Duration, here: Duration| {
+        let show = |what: &str, (there, here): (Duration, Duration)| {
             let (a, b) = (there.as_secs_f64() * 1e3, here.as_secs_f64() * 1e3);
             println!("{name:<22} {bytes:>8} {what:<34} {a:>10.3} {b:>10.3} {:>6.2}", a / b);
         };
-        let lexed = best(|| texts.iter().for_each(|t| sink(Token::lexer(t).spanned().count())));
-        let tokens = best(|| files.iter().for_each(|f| sink(lc3::tokens(f).count())));
-        show("tokens", lexed, tokens);
-        let parsed = best(|| texts.iter().for_each(|t| sink(parse_ast(t))));
-        let checked = best(|| files.iter().for_each(|f| sink(lc3::first_refusal(f))));
-        show("statements; first_refusal", parsed, checked);
-        let whole = best(|| texts.iter().for_each(|t| crates(t)));
-        let lent = best(|| files.iter().for_each(|f| sink(six.assemble_clean(f, Sizes::FULL))));
-        show("assemble, buffers lent once", whole, lent);
-        let owned = best(|| files.iter().for_each(|f| sink(lc3::assemble(f).unwrap())));
-        show("assemble, buffers made each time", whole, owned);
+        let lexed = || texts.iter().for_each(|t| sink(Token::lexer(t).spanned().count()));
+        show("tokens", best(lexed, || files.iter().for_each(|f| sink(lc3::tokens(f).count()))));
+        let parsed = || texts.iter().for_each(|t| sink(parse_ast(t)));
+        show("statements; first_refusal", best(parsed, || files.iter().for_each(|f| sink(lc3::first_refusal(f)))));
+        let whole = || texts.iter().for_each(|t| crates(t));
+        let lent = || files.iter().for_each(|f| sink(six.assemble_clean(f, Sizes::FULL)));
+        show("assemble, buffers lent once", best(whole, lent));
+        let owned = || files.iter().for_each(|f| sink(lc3::assemble(f).unwrap()));
+        show("assemble, buffers made each time", best(whole, owned));
     }
 }
