@@ -16,17 +16,19 @@ use Rattle.object.specs.Slots.{upperRow}
 use Rattle.label_layout.specs.Laying.{Layable, LabelRoom, upperLabels, LaidLabels}
 use Rattle.object_layout.specs.Rooms.{Rooms}
 
-pub all-clear : (p q : Buffers)
-    → q .blocks ≡ zeros (length (p .blocks)) → q .words ≡ zeros (length (p .words)) → q .marks ≡ zeros (length (p .marks))
-    → q .labels ≡ zeros (length (p .labels)) → q .relocs ≡ zeros (length (p .relocs)) → q .names ≡ zeros (length (p .names)) → q ≡ layout nothing p
+-- six buffers of zeros are the layout of nothing
+pub cleared : (bs ws ms ls rs ns bs′ ws′ ms′ ls′ rs′ ns′ : List ℕ)
+    → bs′ ≡ zeros (length bs) → ws′ ≡ zeros (length ws) → ms′ ≡ zeros (length ms)
+    → ls′ ≡ zeros (length ls) → rs′ ≡ zeros (length rs) → ns′ ≡ zeros (length ns)
+    → six bs′ ws′ ms′ ls′ rs′ ns′ ≡ layout nothing (six bs ws ms ls rs ns)
 unfolding layBlocks layWords layMarks layLabels layRelocs layNames
-all-clear p q b w m l r n =
-    let b = b ∙ sym (lay-nil (length (p .blocks))) in
-    let w = w ∙ sym (lay-nil (length (p .words))) in
-    let m = m ∙ sym (lay-nil (length (p .marks))) in
-    let l = l ∙ sym (lay-nil (length (p .labels))) in
-    let r = r ∙ sym (lay-nil (length (p .relocs))) in
-    let n = n ∙ sym (lay-nil (length (p .names))) in
+cleared bs ws ms ls rs ns bs′ ws′ ms′ ls′ rs′ ns′ b w m l r n =
+    let b = b ∙ sym (lay-nil (length bs)) in
+    let w = w ∙ sym (lay-nil (length ws)) in
+    let m = m ∙ sym (lay-nil (length ms)) in
+    let l = l ∙ sym (lay-nil (length ls)) in
+    let r = r ∙ sym (lay-nil (length rs)) in
+    let n = n ∙ sym (lay-nil (length ns)) in
     λ i. six (b i) (w i) (m i) (l i) (r i) (n i)
 
 -- valid labels can be laid, and are laid as they are
