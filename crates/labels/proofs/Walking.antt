@@ -1,12 +1,12 @@
 -- Newlines, colons and labels, told by a lexeme's sort. Assumes nothing.
 use Prim.Native.Nat.{ℕ, zero, suc, _+_, _-_, _≤_, _<_}
 use mathlib.Core.Path.{_≡_, refl, sym, _∙_, ap}
-use mathlib.Core.Bool.{Bool, true, false, _||_}
+use mathlib.Core.Bool.{Bool, true, false, _&&_, _||_}
 use mathlib.Core.List.{List, [], _∷_}
 use mathlib.Core.Option.{Option, none, some}
 use native.Mathlib.Decide.{decLt, ℕ-discrete}
 use native.Mathlib.Omega.{arith}
-use borrow.Author.Tests.{eq-eqb, ne-eqb, le-leb, lt-leb}
+use borrow.Author.Tests.{eq-eqb, ne-eqb, eqb-true, eqb-false, le-leb, lt-leb, leb-true, leb-false}
 use lib.Dec.{eqb, leb}
 use lib.ListN.{length}
 use Rattle.rules.specs.Base.{if_then_else_, Outcome, ok, refused, Span, span, has}
@@ -20,7 +20,7 @@ use Rattle.lexeme.proofs.Marks.{token-mark, stop-end, line-sort, colon-sort, wo
 use Rattle.labels.specs.declared.Label.{Label}
 use Rattle.labels.specs.declared.Label.the-variants.{At, Nothing}
 use Rattle.labels.specs.declared.NextLabel.the-variants as next
-use Rattle.labels.specs.Walk.{afterLine, placed, labelHere, labelled, labelFrom}
+use Rattle.labels.specs.Walk.{afterLine, placed, labelHere, labelled, labelFrom, isLabel}
 
 module _ (s : List ℕ) (i : ℕ) (t : Lexeme) (h : Stands s i t) where
   pub line-yes : t .sort ≡ 9 → t .end ≡ afterLine s i
@@ -81,16 +81,16 @@ module _ (s : List ℕ) (i : ℕ) (t : Lexeme) (h : Stands s i t) where
   unfolding nameOf
   here-named e = name-token s i _ (rw e at (h .token (omega arith)))
 
-  pub label-yes : (n : ℕ) → t .sort ≡ 3 → n ≡ t .end - t .start → n ≤ 64 → At (t .start) (t .end) ≡ labelHere s i
+  label-yes : t .sort ≡ 3 → t .end - t .start ≤ 64 → At (t .start) (t .end) ≡ labelHere s i
   unfolding labelHere placed asName asLabel asWord if_then_else_
-  label-yes n e q l =
+  label-yes e l =
       let z : leb (length (nameOf s t)) 64 ≡ true = le-leb (length (nameOf s t)) 64 (omega (arith, h .size e)) in
       let w : nameAt s i ≡ some (record { text = nameOf s t; place = span (t .start) (t .end) }) = here-named e ∙ rw (h .label e, z, asName) in
       sym (ap placed w)
 
-  pub label-long : (n : ℕ) → t .sort ≡ 3 → n ≡ t .end - t .start → 64 < n → Nothing ≡ labelHere s i
+  label-long : t .sort ≡ 3 → 64 < t .end - t .start → Nothing ≡ labelHere s i
   unfolding labelHere placed asName asLabel asWord if_then_else_
-  label-long n e q l =
+  label-long e l =
       let z : leb (length (nameOf s t)) 64 ≡ false = lt-leb (length (nameOf s t)) 64 (omega (arith, h .size e)) in
       let w : nameAt s i ≡ none = here-named e ∙ rw (h .label e, z, asName) in
       sym (ap placed w)
@@ -113,7 +113,7 @@ module _ (s : List ℕ) (i : ℕ) (t : Lexeme) (h : Stands s i t) where
   other-none : t .sort < 11 → (t .sort ≡ 3 → ⊥) → (t .sort ≡ 5 → ⊥) → nameAt s i ≡ none
   other-none l a b = name-token s i _ (h .token l) ∙ no-label (kindBy s (t .sort) t) (span (t .start) (t .end)) (word-sort s t (t .sort) l ∙ rw (ne-eqb _ _ a, ne-eqb _ _ b))
 
-  pub label-no : (t .sort ≡ 3 → ⊥) → Nothing ≡ labelHere s i
+  label-no : (t .sort ≡ 3 → ⊥) → Nothing ≡ labelHere s i
   unfolding labelHere placed
   label-no n = sym (ap placed (go (decLt (t .sort) 11) (ℕ-discrete (t .sort) 5)))
     where
@@ -121,6 +121,29 @@ module _ (s : List ℕ) (i : ℕ) (t : Lexeme) (h : Stands s i t) where
       go (yes l) (yes e) = reserved-none e
       go (yes l) (no e) = other-none l n e
       go (no l) d = name-refused s i _ (h .bad (omega arith))
+
+-- by the code's test
+by-test : (t : Lexeme) (b : Bool) → b ≡ isLabel t → {A : Type 0} → (b ≡ true → t .sort ≡ 3 → t .end - t .start ≤ 64 → A) → (b ≡ false → t .sort ≡ 3 → 64 < t .end - t .start → A) → (b ≡ false → (t .sort ≡ 3 → ⊥) → A) → A
+unfolding isLabel
+by-test t b q {A} f g h = go (eqb (t .sort) 3) (leb (t .end - t .start) 64) refl refl q
+  where
+    go : (x y : Bool) → eqb (t .sort) 3 ≡ x → leb (t .end - t .start) 64 ≡ y → b ≡ (x && y) → A
+    go true true u v w = f w (eqb-true (t .sort) 3 u) (leb-true (t .end - t .start) 64 v)
+    go true false u v w = g w (eqb-true (t .sort) 3 u) (leb-false (t .end - t .start) 64 v)
+    go false y u v w = h w (eqb-false (t .sort) 3 u)
+
+impossible : {A : Type 0} → _≡_ {A = Bool} true false → A
+impossible e = let z : _≡_ {A = ℕ} 0 1 = cc in absurd (omega arith)
+
+pub label-sort : (t : Lexeme) (b : Bool) → b ≡ isLabel t → b ≡ true → t .sort ≡ 3
+label-sort t b q y = by-test t b q (λ x e l. e) (λ x e l. impossible (sym y ∙ x)) (λ x e. impossible (sym y ∙ x))
+
+module _ (s : List ℕ) (i : ℕ) (t : Lexeme) (h : Stands s i t) (b : Bool) (q : b ≡ isLabel t) where
+  pub label-is : b ≡ true → At (t .start) (t .end) ≡ labelHere s i
+  label-is y = by-test t b q (λ x e l. label-yes s i t h e l) (λ x e l. impossible (sym y ∙ x)) (λ x e. impossible (sym y ∙ x))
+
+  pub label-none : b ≡ false → Nothing ≡ labelHere s i
+  label-none y = by-test t b q (λ x e l. impossible (sym x ∙ y)) (λ x e l. label-long s i t h e l) (λ x e. label-no s i t h e)
 
 -- THE FIRST LABEL FROM A PLACE
 

@@ -1,13 +1,15 @@
 -- Newlines and labels as the code walks them. Assumes nothing.
-use Prim.Native.Nat.{ℕ}
-use mathlib.Core.Bool.{Bool, true, false, not}
+use Prim.Native.Nat.{ℕ, _-_}
+use mathlib.Core.Bool.{Bool, true, false, _&&_, _||_, not}
 use mathlib.Core.List.{List}
 use mathlib.Core.Option.{Option, none, some}
 use mathlib.Core.Path.{_≡_}
-use lib.Dec.{eqb}
+use lib.Dec.{eqb, leb}
 use lib.ListN.{length}
 use Rattle.rules.specs.Base.{if_then_else_}
 use Rattle.rules.specs.Statements.{Name, isMark, tokenIs, stopAt, pastLines, pastLabel, pastLabels, nameAt, labelsAt}
+use Rattle.lexeme.specs.declared.Lexeme.{Lexeme}
+use Rattle.lexeme.specs.Sorts.{Stands}
 use Rattle.labels.specs.declared.Label.{Label}
 use Rattle.labels.specs.declared.Label.the-variants.{At, Nothing}
 use Rattle.labels.specs.declared.NextLabel.{NextLabel}
@@ -35,7 +37,15 @@ labelled (some n) j = next.Label (n .place .start) (n .place .stop) j
 unfoldable pub labelFrom : List ℕ → ℕ → NextLabel
 labelFrom s i = labelled (nameAt s (pastLines s i)) (pastLabel s i)
 
--- the walk over labels from i ends at its head, and says whether there were any
+-- a token that is a label of at most 64 bytes
+unfoldable pub isLabel : Lexeme → Bool
+isLabel t = eqb (t .sort) 3 && leb (t .end - t .start) 64
+
+-- a label, a newline, or a colon where one may stand
+unfoldable pub isBefore : Lexeme → (colon : Bool) → Bool
+isBefore t colon = (isLabel t || eqb (t .sort) 9) || (colon && eqb (t .sort) 7)
+
+-- the walk over labels from i ends at the token after them and newlines, and says whether there were any
 pub record Walked (s : List ℕ) (i : ℕ) (w : Walk) : Type 0 where
-  pub head : w .head ≡ pastLines s (pastLabels s i)
+  pub token : Stands s (pastLines s (pastLabels s i)) (w .token)
   pub labelled : w .labelled ≡ not (eqb (length (labelsAt s i)) 0)

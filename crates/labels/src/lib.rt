@@ -1,9 +1,10 @@
 // What stands before a statement's instruction or directive: newlines, and labels each with an optional colon.
+use lexeme::Lexeme;
 use lexeme::next_lexeme;
 ghost use mathlib.Core.Path.{_≡_};
 ghost use Prim.Native.Nat.{_-_};
 ghost use Rattle.rules.specs.Statements.{pastColon, pastLines};
-ghost use Rattle.labels.specs.Walk.{afterLine, labelHere, labelFrom, Walked};
+ghost use Rattle.labels.specs.Walk.{afterLine, labelHere, labelFrom, isLabel, isBefore, Walked};
 
 // A label token of at most 64 bytes, or none.
 pub enum Label {
@@ -21,9 +22,9 @@ pub enum NextLabel {
     Done,
 }
 
-// Where labels end: the place of the instruction or directive, and whether there are labels at all.
+// Where labels end: the token that stands there, and whether there are labels at all.
 pub struct Walk {
-    pub head: usize,
+    pub token: Lexeme,
     pub labelled: bool,
 }
 
@@ -74,18 +75,23 @@ fn gap(start: usize, end: usize) -> usize
     0
 }
 
+// A token that is a label of at most 64 bytes.
+fn is_label(t: Lexeme) -> bool
+    ensures { λ r. ⌜ r ≡ isLabel t ⌝ }
+{
+    (t.sort == 3) & (gap(t.start, t.end) <= 64)
+}
+
 // The label token at a place.
 fn label_here(src: &[u8], at: usize) -> Label
     ensures { λ r. ⌜ r ≡ labelHere (now (src .entry)) at ⌝ }
 {
     let t = next_lexeme(src, at);
-    if t.sort == 3 {
-        let start = t.start;
-        let end = t.end;
-        if gap(start, end) <= 64 {
-            return Label::At { start, end };
-        }
-        return Label::Nothing;
+    if is_label(t) {
+        return Label::At {
+            start: t.start,
+            end: t.end,
+        };
     }
     Label::Nothing
 }
@@ -105,24 +111,28 @@ pub fn next_label(src: &[u8], at: usize) -> NextLabel
     }
 }
 
-// The walk over the labels from a place on.
+// A token that stands before an instruction or directive: a label, a newline, or a colon where one may stand.
+fn is_before(t: Lexeme, colon: bool) -> bool
+    ensures { λ r. ⌜ r ≡ isBefore t colon ⌝ }
+{
+    is_label(t) | (t.sort == 9) | (colon & (t.sort == 7))
+}
+
+// The walk over the labels from a place on. Each token is read once; a colon may stand directly after a label and nowhere else.
 pub fn walk_labels(src: &[u8], at: usize) -> Walk
     ensures { λ r. ⌜ Walked (now (src .entry)) at r ⌝ }
 {
     let mut i = at;
     let mut labelled = false;
-    let mut head = past_lines(src, at);
-    while i < src.len() {
-        match label_here(src, head) {
-            Label::At { start: _, end } => {
-                i = past_colon(src, end);
-                head = past_lines(src, i);
-                labelled = true;
-            }
-            Label::Nothing => {
-                return Walk { head, labelled };
-            }
+    let mut colon = false;
+    loop {
+        let token = next_lexeme(src, i);
+        if is_before(token, colon) {
+            colon = is_label(token);
+            labelled = labelled | colon;
+            i = token.end;
+        } else {
+            return Walk { token, labelled };
         }
     }
-    Walk { head, labelled }
 }

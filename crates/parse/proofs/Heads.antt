@@ -13,7 +13,7 @@ use lib.Seq.{take-all}
 use Rattle.rules.specs.Base.{if_then_else_, ok, refuse, _>>=_, span}
 use Rattle.rules.specs.Tokens.{Kind, tokenIn, directive, word, upper, nextToken}
 use Rattle.rules.specs.Words.{instructions, directives}
-use Rattle.rules.specs.Statements.{Name, asWord, asDirective, need, labelsAt, instrRead, tokenRead, nextStatement}
+use Rattle.rules.specs.Statements.{Name, asWord, asDirective, need, pastLines, pastLabels, labelsAt, instrRead, tokenRead, nextStatement}
 use Rattle.token.specs.Meant.{part, kindAt}
 use Rattle.lexeme.specs.declared.Lexeme.{Lexeme}
 use Rattle.lexeme.specs.Sorts.{nameOf, kindBy, noRow, Stands}
@@ -50,27 +50,27 @@ module _ (s : List ℕ) (dot e : ℕ) where
   unfolding part
   name-whole = refl
 
-pub code-few : (s : List ℕ) (i : ℕ) (t : Lexeme) → Stands s i t → t .sort ≡ 5 → t .value < 32
-code-few s i t h e = h .code e
+pub code-few : (s : List ℕ) (i : ℕ) (w : Walk) → Walked s i w → w .token .sort ≡ 5 → w .token .value < 32
+code-few s i w k e = k .token .code e
 
 -- A DIRECTIVE
-module _ (s : List ℕ) (a e : ℕ) (n : List ℕ) (code : ℕ) (r : NextStatement) (p : n ≡ part s (a + 1) e) (q : code ≡ codeFrom 32 (map upper n) directives) where
+module _ (s : List ℕ) (b : Bool) (a e : ℕ) (n : List ℕ) (code : ℕ) (r : NextStatement) (p : n ≡ part s (a + 1) e) (q : code ≡ codeFrom 32 (map upper n) directives) where
   coded-name : code ≡ codeFrom 32 (map upper (part s (a + 1) e)) directives
   coded-name = rw p at q
 
   abbrev Dotted : Type 0
-  Dotted = (ls : List Name) (k : Kind) → r ≡ codedStatement (dotRead s ls (map upper (part s (a + 1) e)) (tokenIn k (span a e)))
+  Dotted = (ls : List Name) (k : Kind) → b ≡ not (eqb (length ls) 0) → r ≡ codedStatement (dotRead s ls (map upper (part s (a + 1) e)) (tokenIn k (span a e)))
 
-  pub directive-known : (c : rows.Row) → code < 38 → c ≡ rowAt code → r ≡ rowStep s (c .op) (fieldsBy (c .count) (c .first) (c .second) (c .third)) 14 (c .base) a e → Dotted
+  pub directive-known : (c : rows.Row) → code < 38 → c ≡ rowAt code → r ≡ rowStep s b (c .op) (fieldsBy (c .count) (c .first) (c .second) (c .third)) 14 (c .base) a e → Dotted
   unfolding need dotRead
-  directive-known c l h x ls k =
+  directive-known c l h x ls k y =
       let f : Found (map upper (part s (a + 1) e)) code directives = directive-found (map upper (part s (a + 1) e)) code coded-name l in
       let m : Means c (f .row) = rw h (f .means) in
-      rw (f .is, need) (x ∙ rw (m .fields) (row-coded s ls k c (f .row) m (f .row .fields) 14 a e))
+      rw (f .is, need) (x ∙ rw (m .fields) (row-coded s ls b y k c (f .row) m (f .row .fields) 14 a e))
 
   pub directive-unknown : 38 ≤ code → r ≡ Refused 13 a e → Dotted
   unfolding need codedStatement dotRead
-  directive-unknown l x ls k = rw (directive-missed (map upper (part s (a + 1) e)) code coded-name l, need) x
+  directive-unknown l x ls k y = rw (directive-missed (map upper (part s (a + 1) e)) code coded-name l, need) x
 
 -- THE FIRST TOKEN AFTER LABELS
 module _ (s : List ℕ) (t : Lexeme) where
@@ -102,10 +102,16 @@ module _ (s : List ℕ) (t : Lexeme) where
   not-word (suc (suc (suc (suc (suc (suc (suc (suc (suc zero))))))))) n m = refl
   not-word (suc (suc (suc (suc (suc (suc (suc (suc (suc (suc k)))))))))) n m = refl
 
-module _ (s : List ℕ) (i : ℕ) (w : Walk) (t : Lexeme) (r : NextStatement) (k : Walked s i w) (h : Stands s (w .head) t) where
-  at-head : nextStatement s i ≡ (nextToken s (w .head) >>= tokenRead s (labelsAt s i))
+module _ (s : List ℕ) (i : ℕ) (w : Walk) (r : NextStatement) (k : Walked s i w) where
+  abbrev t : Lexeme
+  t = w .token
+
+  h : Stands s (pastLines s (pastLabels s i)) t
+  h = k .token
+
+  at-head : nextStatement s i ≡ (nextToken s (pastLines s (pastLabels s i)) >>= tokenRead s (labelsAt s i))
   unfolding nextStatement
-  at-head = rw (k .head)
+  at-head = refl
 
   at-token : t .sort < 11 → nextStatement s i ≡ tokenRead s (labelsAt s i) (tokenIn (kindBy s (t .sort) t) (span (t .start) (t .end)))
   at-token l = at-head ∙ rw (h .token l)
@@ -113,17 +119,17 @@ module _ (s : List ℕ) (i : ℕ) (w : Walk) (t : Lexeme) (r : NextStatement) (k
   abbrev Answer : Type 0
   Answer = r ≡ codedStatement (nextStatement s i)
 
-  pub head-instruction : t .sort ≡ 5 → ((ls : List Name) (k : Kind) → r ≡ codedStatement (instrRead s ls (getD instructions (t .value) noRow) (tokenIn k (span (t .start) (t .end))))) → Answer
+  pub head-instruction : t .sort ≡ 5 → ((ls : List Name) (k : Kind) → w .labelled ≡ not (eqb (length ls) 0) → r ≡ codedStatement (instrRead s ls (getD instructions (t .value) noRow) (tokenIn k (span (t .start) (t .end))))) → Answer
   unfolding tokenRead asDirective asWord
   head-instruction e f =
       let q : nextStatement s i ≡ tokenRead s (labelsAt s i) (tokenIn (word (nameOf s t)) (span (t .start) (t .end))) = at-token (omega arith) ∙ rw e in
-      f (labelsAt s i) (word (nameOf s t)) ∙ ap codedStatement (sym (q ∙ rw (h .reserved e, tokenRead)))
+      f (labelsAt s i) (word (nameOf s t)) (k .labelled) ∙ ap codedStatement (sym (q ∙ rw (h .reserved e, tokenRead)))
 
-  pub head-directive : t .sort ≡ 6 → ((ls : List Name) (k : Kind) → r ≡ codedStatement (dotRead s ls (map upper (part s (t .start + 1) (t .end))) (tokenIn k (span (t .start) (t .end))))) → Answer
+  pub head-directive : t .sort ≡ 6 → ((ls : List Name) (k : Kind) → w .labelled ≡ not (eqb (length ls) 0) → r ≡ codedStatement (dotRead s ls (map upper (part s (t .start + 1) (t .end))) (tokenIn k (span (t .start) (t .end))))) → Answer
   unfolding tokenRead asDirective kindAt dotRead
   head-directive e f =
       let q : nextStatement s i ≡ tokenRead s (labelsAt s i) (tokenIn (directive (map upper (part s (t .start + 1) (t .end)))) (span (t .start) (t .end))) = at-token (omega arith) ∙ rw e in
-      f (labelsAt s i) (directive (map upper (part s (t .start + 1) (t .end)))) ∙ ap codedStatement (sym q)
+      f (labelsAt s i) (directive (map upper (part s (t .start + 1) (t .end)))) (k .labelled) ∙ ap codedStatement (sym q)
 
   pub head-label : t .sort ≡ 3 → r ≡ Refused 16 (t .start) (t .end) → Answer
   unfolding tokenRead asDirective asWord codedStatement
@@ -176,5 +182,5 @@ module _ (s : List ℕ) (i : ℕ) (w : Walk) (t : Lexeme) (r : NextStatement) (k
           let u : nextStatement s i ≡ refuse (t .value) (span (t .start) (t .end)) = at-head ∙ rw (h .bad (omega arith)) in
           (rw (eq-eqb (t .sort) 11 z) at f) ∙ ap codedStatement (sym u)
 
-pub head-none : (s : List ℕ) (i : ℕ) (w : Walk) (t : Lexeme) → Walked s i w → Stands s (w .head) t → t .sort ≡ 10 → w .labelled ≡ false → End ≡ codedStatement (nextStatement s i)
-head-none s i w t k h e b = none-there s i w t End k h e b
+pub head-none : (s : List ℕ) (i : ℕ) (w : Walk) → Walked s i w → w .token .sort ≡ 10 → w .labelled ≡ false → End ≡ codedStatement (nextStatement s i)
+head-none s i w k e b = none-there s i w End k e b

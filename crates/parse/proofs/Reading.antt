@@ -1,14 +1,14 @@
 -- A statement by its row: the code's reading is the rules'. Assumes nothing.
 use Prim.Native.Nat.{ℕ, _<_}
 use mathlib.Core.Path.{_≡_, refl, sym, _∙_, ap}
-use mathlib.Core.Bool.{true, false, _||_}
+use mathlib.Core.Bool.{Bool, true, false, _||_, not}
 use mathlib.Core.List.{List, []}
 use mathlib.Core.Option.{some}
 use native.Mathlib.Decide.{decLt}
 use native.Mathlib.Omega.{arith}
 use borrow.Author.Tests.{eq-eqb, ne-eqb}
 use lib.Dec.{eqb}
-use lib.ListN.{getD}
+use lib.ListN.{length, getD}
 use Rattle.rules.specs.Base.{if_then_else_, Outcome, ok, refused, refuse, require, _>>=_, span}
 use Rattle.rules.specs.Tokens.{Kind, tokenIn}
 use Rattle.rules.specs.Words.{end, instructions}
@@ -66,24 +66,24 @@ module _ (s : List ℕ) (i : ℕ) (t : Lexeme) (h : Stands s i t) where
       go (yes l) = is-token ends s i _ (h .token l) ∙ (ends-sort l ∙ rw (ne-eqb (t .sort) 9 n, ne-eqb (t .sort) 10 m))
       go (no l) = is-refused ends s i _ (h .bad (omega arith))
 
-module _ (s : List ℕ) (o : Op) (a : ℕ) (g : Given) (t : Lexeme) (r : NextStatement) (h : Stands s (g .stop) t) where
-  pub finish-line : t .sort ≡ 9 → r ≡ next.Read (made o a g (t .end)) → r ≡ finished s o a g
+module _ (s : List ℕ) (b : Bool) (o : Op) (a : ℕ) (g : Given) (t : Lexeme) (r : NextStatement) (h : Stands s (g .stop) t) where
+  pub finish-line : t .sort ≡ 9 → r ≡ next.Read (made b o a g (t .end)) → r ≡ finished s b o a g
   unfolding finished ended
   finish-line e q =
       let l : lineEnd s (g .stop) ≡ ok (t .end) = end-token s (g .stop) t h (omega arith) ∙ rw (eq-eqb (t .sort) 9 e) in
       rw (l, ended) q
 
-  pub finish-end : (t .sort ≡ 9 → ⊥) → t .sort ≡ 10 → r ≡ next.Read (made o a g (t .end)) → r ≡ finished s o a g
+  pub finish-end : (t .sort ≡ 9 → ⊥) → t .sort ≡ 10 → r ≡ next.Read (made b o a g (t .end)) → r ≡ finished s b o a g
   unfolding finished ended
   finish-end n e q =
       let l : lineEnd s (g .stop) ≡ ok (t .end) = end-token s (g .stop) t h (omega arith) ∙ rw (ne-eqb (t .sort) 9 n, eq-eqb (t .sort) 10 e) in
       rw (l, ended) q
 
-  pub finish-no : (t .sort ≡ 9 → ⊥) → (t .sort ≡ 10 → ⊥) → r ≡ unfitAt t → r ≡ finished s o a g
+  pub finish-no : (t .sort ≡ 9 → ⊥) → (t .sort ≡ 10 → ⊥) → r ≡ unfitAt t → r ≡ finished s b o a g
   unfolding finished ended unfitAt if_then_else_ lineEnd
   finish-no n m q = go (decLt (t .sort) 11)
     where
-      go : Dec (t .sort < 11) → r ≡ finished s o a g
+      go : Dec (t .sort < 11) → r ≡ finished s b o a g
       go (yes x) =
           let l : lineEnd s (g .stop) ≡ refuse 13 (span (t .start) (t .end)) = end-token s (g .stop) t h x ∙ rw (ne-eqb (t .sort) 9 n, ne-eqb (t .sort) 10 m) in
           rw (l, ended) (rw (ne-eqb (t .sort) 11 (λ (z : t .sort ≡ 11). omega arith)) at q)
@@ -93,14 +93,14 @@ module _ (s : List ℕ) (o : Op) (a : ℕ) (g : Given) (t : Lexeme) (r : NextSta
           rw (l, ended) (rw (eq-eqb (t .sort) 11 z) at q)
 
 -- A ROW
-module _ (s : List ℕ) (o : Op) (fs : List words.Field) (other w a e : ℕ) (x : Step) (h : x ≡ lineStep s fs other w e) (r : NextStatement) where
-  pub row-took : (g : Given) → x ≡ step.Took g → r ≡ finished s o a g → r ≡ rowStep s o fs other w a e
+module _ (s : List ℕ) (b : Bool) (o : Op) (fs : List words.Field) (other w a e : ℕ) (x : Step) (h : x ≡ lineStep s fs other w e) (r : NextStatement) where
+  pub row-took : (g : Given) → x ≡ step.Took g → r ≡ finished s b o a g → r ≡ rowStep s b o fs other w a e
   unfolding rowStep after
   row-took g p q = let z : lineStep s fs other w e ≡ step.Took g = sym h ∙ p in rw (z, after) q
 
-  pub row-refused : (n b i : ℕ) → x ≡ step.Refused n b i → r ≡ Refused n b i → r ≡ rowStep s o fs other w a e
+  pub row-refused : (n j i : ℕ) → x ≡ step.Refused n j i → r ≡ Refused n j i → r ≡ rowStep s b o fs other w a e
   unfolding rowStep after
-  row-refused n b i p q = let z : lineStep s fs other w e ≡ step.Refused n b i = sym h ∙ p in rw (z, after) q
+  row-refused n j i p q = let z : lineStep s fs other w e ≡ step.Refused n j i = sym h ∙ p in rw (z, after) q
 
 op-back : (o : Op) (p : words.Op) → opOf o ≡ p → o ≡ codedOp p
 op-back o p e = go o ∙ ap codedOp e
@@ -114,48 +114,48 @@ op-back o p e = go o ∙ ap codedOp e
     go op.End = refl
     go External = refl
 
-module _ (s : List ℕ) (ls : List Name) (k : Kind) (c : Row) (r : words.Row) (m : Means c r) (fs : List words.Field) (other a e : ℕ) where
-  pub row-coded : rowStep s (c .op) fs other (c .base) a e ≡ codedStatement (rowRead s ls r (tokenIn k (span a e)) fs other)
+module _ (s : List ℕ) (ls : List Name) (b : Bool) (l : b ≡ not (eqb (length ls) 0)) (k : Kind) (c : Row) (r : words.Row) (m : Means c r) (fs : List words.Field) (other a e : ℕ) where
+  pub row-coded : rowStep s b (c .op) fs other (c .base) a e ≡ codedStatement (rowRead s ls r (tokenIn k (span a e)) fs other)
   unfolding rowStep lineStep rowRead after codedStep codedStatement finished ended codedGiven codedRead
-  row-coded = rw (op-back (c .op) (r .op) (m .op), m .base) (by-given (operandsFrom s fs other (bare (r .base) e)))
+  row-coded = rw (l, op-back (c .op) (r .op) (m .op), m .base) (by-given (operandsFrom s fs other (bare (r .base) e)))
     where
-      by-end : (g : rules.Given) (x : Outcome ℕ) → ended (codedOp (r .op)) a (codedGiven g) x ≡ codedStatement (x >>= λ n. ok (some (read (stmt ls (r .op) g a) n)))
+      by-end : (g : rules.Given) (x : Outcome ℕ) → ended (not (eqb (length ls) 0)) (codedOp (r .op)) a (codedGiven g) x ≡ codedStatement (x >>= λ n. ok (some (read (stmt ls (r .op) g a) n)))
       by-end g (ok n) = refl
       by-end g (refused x) = refl
 
-      by-given : (x : Outcome rules.Given) → after s (codedOp (r .op)) a (codedStep x) ≡ codedStatement (x >>= λ g. lineEnd s (g .stop) >>= λ n. ok (some (read (stmt ls (r .op) g a) n)))
+      by-given : (x : Outcome rules.Given) → after s (not (eqb (length ls) 0)) (codedOp (r .op)) a (codedStep x) ≡ codedStatement (x >>= λ g. lineEnd s (g .stop) >>= λ n. ok (some (read (stmt ls (r .op) g a) n)))
       by-given (ok g) = by-end g (lineEnd s (g .stop))
       by-given (refused x) = refl
 
 -- NOP
-module _ (s : List ℕ) (row : Row) (a e : ℕ) (t : Lexeme) (r : NextStatement) (h : Stands s e t) where
-  bare-nop : (c : Row) → c ≡ bareRow row → r ≡ rowStep s (c .op) (fieldsBy (c .count) (c .first) (c .second) (c .third)) 13 (c .base) a e → tokenIs ends s e ≡ true → r ≡ nopStep s row a e
+module _ (s : List ℕ) (b : Bool) (row : Row) (a e : ℕ) (t : Lexeme) (r : NextStatement) (h : Stands s e t) where
+  bare-nop : (c : Row) → c ≡ bareRow row → r ≡ rowStep s b (c .op) (fieldsBy (c .count) (c .first) (c .second) (c .third)) 13 (c .base) a e → tokenIs ends s e ≡ true → r ≡ nopStep s b row a e
   unfolding nopStep if_then_else_
   bare-nop c p q z = rw z (rw p at q)
 
-  pub nop-line : (c : Row) → c ≡ bareRow row → r ≡ rowStep s (c .op) (fieldsBy (c .count) (c .first) (c .second) (c .third)) 13 (c .base) a e → t .sort ≡ 9 → r ≡ nopStep s row a e
+  pub nop-line : (c : Row) → c ≡ bareRow row → r ≡ rowStep s b (c .op) (fieldsBy (c .count) (c .first) (c .second) (c .third)) 13 (c .base) a e → t .sort ≡ 9 → r ≡ nopStep s b row a e
   nop-line c p q z = bare-nop c p q (ends-line s e t h z)
 
-  pub nop-end : (c : Row) → c ≡ bareRow row → r ≡ rowStep s (c .op) (fieldsBy (c .count) (c .first) (c .second) (c .third)) 13 (c .base) a e → (t .sort ≡ 9 → ⊥) → t .sort ≡ 10 → r ≡ nopStep s row a e
+  pub nop-end : (c : Row) → c ≡ bareRow row → r ≡ rowStep s b (c .op) (fieldsBy (c .count) (c .first) (c .second) (c .third)) 13 (c .base) a e → (t .sort ≡ 9 → ⊥) → t .sort ≡ 10 → r ≡ nopStep s b row a e
   nop-end c p q n z = bare-nop c p q (ends-end s e t h n z)
 
-  pub nop-other : r ≡ rowStep s (row .op) (fieldsBy (row .count) (row .first) (row .second) (row .third)) 13 (row .base) a e → (t .sort ≡ 9 → ⊥) → (t .sort ≡ 10 → ⊥) → r ≡ nopStep s row a e
+  pub nop-other : r ≡ rowStep s b (row .op) (fieldsBy (row .count) (row .first) (row .second) (row .third)) 13 (row .base) a e → (t .sort ≡ 9 → ⊥) → (t .sort ≡ 10 → ⊥) → r ≡ nopStep s b row a e
   unfolding nopStep if_then_else_
   nop-other q n z = rw (ends-no s e t h n z) q
 
 -- AN INSTRUCTION
-module _ (s : List ℕ) (v a e : ℕ) (c : Row) (r : NextStatement) (l : v < 32) (h : c ≡ rowAt v) where
+module _ (s : List ℕ) (b : Bool) (v a e : ℕ) (c : Row) (r : NextStatement) (l : v < 32) (h : c ≡ rowAt v) where
   row-is : Means c (getD instructions v noRow)
   row-is = rw h (instruction-means v l)
 
-  pub instruction-nop : c .base ≡ 0 → r ≡ nopStep s c a e → (ls : List Name) (k : Kind) → r ≡ codedStatement (instrRead s ls (getD instructions v noRow) (tokenIn k (span a e)))
+  pub instruction-nop : c .base ≡ 0 → r ≡ nopStep s b c a e → (ls : List Name) (k : Kind) → b ≡ not (eqb (length ls) 0) → r ≡ codedStatement (instrRead s ls (getD instructions v noRow) (tokenIn k (span a e)))
   unfolding instrRead if_then_else_ nopStep
-  instruction-nop z q ls k =
-      let b : eqb (getD instructions v noRow .base) 0 ≡ true = eq-eqb (getD instructions v noRow .base) 0 (sym (row-is .base) ∙ z) in
-      rw b (q ∙ (rw (row-is .fields) (row-coded s ls k c (getD instructions v noRow) row-is (if tokenIs ends s e then [] else getD instructions v noRow .fields) 13 a e)))
+  instruction-nop z q ls k y =
+      let w : eqb (getD instructions v noRow .base) 0 ≡ true = eq-eqb (getD instructions v noRow .base) 0 (sym (row-is .base) ∙ z) in
+      rw w (q ∙ (rw (row-is .fields) (row-coded s ls b y k c (getD instructions v noRow) row-is (if tokenIs ends s e then [] else getD instructions v noRow .fields) 13 a e)))
 
-  pub instruction-other : (c .base ≡ 0 → ⊥) → r ≡ rowStep s (c .op) (fieldsBy (c .count) (c .first) (c .second) (c .third)) 14 (c .base) a e → (ls : List Name) (k : Kind) → r ≡ codedStatement (instrRead s ls (getD instructions v noRow) (tokenIn k (span a e)))
+  pub instruction-other : (c .base ≡ 0 → ⊥) → r ≡ rowStep s b (c .op) (fieldsBy (c .count) (c .first) (c .second) (c .third)) 14 (c .base) a e → (ls : List Name) (k : Kind) → b ≡ not (eqb (length ls) 0) → r ≡ codedStatement (instrRead s ls (getD instructions v noRow) (tokenIn k (span a e)))
   unfolding instrRead if_then_else_
-  instruction-other z q ls k =
-      let b : eqb (getD instructions v noRow .base) 0 ≡ false = ne-eqb (getD instructions v noRow .base) 0 (λ (y : getD instructions v noRow .base ≡ 0). z (row-is .base ∙ y)) in
-      rw b (q ∙ (rw (row-is .fields) (row-coded s ls k c (getD instructions v noRow) row-is (getD instructions v noRow .fields) 14 a e)))
+  instruction-other z q ls k y =
+      let w : eqb (getD instructions v noRow .base) 0 ≡ false = ne-eqb (getD instructions v noRow .base) 0 (λ (x : getD instructions v noRow .base ≡ 0). z (row-is .base ∙ x)) in
+      rw w (q ∙ (rw (row-is .fields) (row-coded s ls b y k c (getD instructions v noRow) row-is (getD instructions v noRow .fields) 14 a e)))

@@ -1,8 +1,10 @@
 -- The rules' statements as the code tells them. Assumes nothing.
 use Prim.Native.Nat.{ℕ}
+use mathlib.Core.Bool.{Bool, not}
 use mathlib.Core.List.{List, []}
 use mathlib.Core.Option.{Option, none, some}
 use lib.Dec.{eqb}
+use lib.ListN.{length}
 use Rattle.rules.specs.Base.{if_then_else_, Outcome, ok, refused, _>>=_}
 use Rattle.rules.specs.Words.{instr, orig, fill, blkw, stringz, end, external, directives, find}
 use Rattle.rules.specs.Words as words
@@ -37,9 +39,10 @@ codedOp stringz = Stringz
 codedOp end = op.End
 codedOp external = External
 
--- a statement: its label operand and its string by their places, its labels left out
+-- a statement: its label operand and its string by their places; of its labels, whether there are any
 unfoldable pub codedRead : Read → Statement
 codedRead r = record {
+  labelled = not (eqb (length (r .stmt .labels)) 0);
   op = codedOp (r .stmt .op);
   bits = r .stmt .bits;
   reach = reachOf (r .stmt .target);
@@ -73,8 +76,9 @@ unfoldable pub unfitAt : Lexeme → NextStatement
 unfitAt t = if eqb (t .sort) 11 then Refused (t .value) (t .start) (t .end) else Refused 13 (t .start) (t .end)
 
 -- a statement of what is given
-abbrev pub made : Op → (start : ℕ) → Given → (next : ℕ) → Statement
-made o a g n = record {
+abbrev pub made : (labelled : Bool) → Op → (start : ℕ) → Given → (next : ℕ) → Statement
+made b o a g n = record {
+  labelled = b;
   op = o;
   bits = g .bits;
   reach = g .reach;
@@ -88,28 +92,28 @@ made o a g n = record {
 }
 
 -- then newline or end
-unfoldable pub ended : Op → (start : ℕ) → Given → Outcome ℕ → NextStatement
-ended o a g (ok n) = next.Read (made o a g n)
-ended o a g (refused r) = Refused (r .number) (r .first .start) (r .first .stop)
+unfoldable pub ended : (labelled : Bool) → Op → (start : ℕ) → Given → Outcome ℕ → NextStatement
+ended b o a g (ok n) = next.Read (made b o a g n)
+ended b o a g (refused r) = Refused (r .number) (r .first .start) (r .first .stop)
 
-unfoldable pub finished : List ℕ → Op → (start : ℕ) → Given → NextStatement
-finished s o a g = ended o a g (lineEnd s (g .stop))
+unfoldable pub finished : List ℕ → (labelled : Bool) → Op → (start : ℕ) → Given → NextStatement
+finished s b o a g = ended b o a g (lineEnd s (g .stop))
 
-unfoldable pub after : List ℕ → Op → (start : ℕ) → Step → NextStatement
-after s o a (step.Took g) = finished s o a g
-after s o a (step.Refused n b e) = Refused n b e
+unfoldable pub after : List ℕ → (labelled : Bool) → Op → (start : ℕ) → Step → NextStatement
+after s b o a (step.Took g) = finished s b o a g
+after s b o a (step.Refused n i e) = Refused n i e
 
 -- the statement of a row whose first token stands from a up to e
-unfoldable pub rowStep : List ℕ → Op → List words.Field → (other word a e : ℕ) → NextStatement
-rowStep s o fs other w a e = after s o a (lineStep s fs other w e)
+unfoldable pub rowStep : List ℕ → (labelled : Bool) → Op → List words.Field → (other word a e : ℕ) → NextStatement
+rowStep s b o fs other w a e = after s b o a (lineStep s fs other w e)
 
 -- a row without its operands
 abbrev pub bareRow : Row → Row
 bareRow r = record { op = r .op; base = r .base; count = 0; first = r .first; second = r .second; third = r .third }
 
 -- NOP
-unfoldable pub nopStep : List ℕ → Row → (a e : ℕ) → NextStatement
-nopStep s r a e = rowStep s (r .op) (if tokenIs ends s e then [] else fieldsBy (r .count) (r .first) (r .second) (r .third)) 13 (r .base) a e
+unfoldable pub nopStep : List ℕ → (labelled : Bool) → Row → (a e : ℕ) → NextStatement
+nopStep s b r a e = rowStep s b (r .op) (if tokenIs ends s e then [] else fieldsBy (r .count) (r .first) (r .second) (r .third)) 13 (r .base) a e
 
 -- the statement of a directive of this name
 unfoldable pub dotRead : List ℕ → List Name → (name : List ℕ) → Token → Outcome (Option Read)

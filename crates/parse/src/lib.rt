@@ -7,9 +7,11 @@ use operands::Step;
 use statement_rows::Op;
 use statement_rows::Row;
 ghost use mathlib.Core.Path.{_≡_};
+ghost use mathlib.Core.Bool.{not};
 ghost use mathlib.Core.List.{List, map};
 ghost use Prim.Native.Nat.{_+_, _<_};
-ghost use lib.ListN.{getD};
+ghost use lib.Dec.{eqb};
+ghost use lib.ListN.{length, getD};
 ghost use Rattle.rules.specs.Base.{span};
 ghost use Rattle.rules.specs.Tokens.{Kind, tokenIn, upper};
 ghost use Rattle.rules.specs.Words.{instructions};
@@ -19,10 +21,11 @@ ghost use Rattle.lexeme.specs.Sorts.{noRow};
 ghost use Rattle.statement_rows.specs.Rows.{fieldsBy};
 ghost use Rattle.parse.specs.Coded.{made, finished, rowStep, nopStep, bareRow, unfitAt, dotRead, codedStatement, codedStatements, sourceStatements};
 
-// A statement: what it does; its word or number as far as it is known; the number of values of its label operand's field (0: no label operand) and the
+// A statement: whether labels stand before it; what it does; its word or number as far as it is known; the number of values of its label operand's field (0: no label operand) and the
 // label's place; its string's place; its span, from the instruction or directive to the last operand; and where the next statement begins.
-// Its labels are not held: they are walked again from where the statement was looked for.
+// The labels themselves are not held: they are walked again from where the statement was looked for.
 pub struct Statement {
+    pub labelled: bool,
     pub op: Op,
     pub bits: u32,
     pub reach: u32,
@@ -76,11 +79,12 @@ fn unfit(t: Lexeme) -> NextStatement
     refused(13, t)
 }
 
-// A statement of what is given, from its first token's start.
-fn read_of(op: Op, start: usize, g: Given, next: usize) -> NextStatement
-    ensures { λ r. ⌜ r ≡ NextStatement.Read (made op start g next) ⌝ }
+// A statement of what is given, from its first token up to its last operand.
+fn read_of(labelled: bool, op: Op, head: Lexeme, g: Given, next: usize) -> NextStatement
+    ensures { λ r. ⌜ r ≡ NextStatement.Read (made labelled op (head .start) g next) ⌝ }
 {
     NextStatement::Read(Statement {
+        labelled,
         op,
         bits: g.bits,
         reach: g.reach,
@@ -88,34 +92,34 @@ fn read_of(op: Op, start: usize, g: Given, next: usize) -> NextStatement
         label_end: g.label_end,
         text_start: g.text_start,
         text_end: g.text_end,
-        start,
+        start: head.start,
         end: g.stop,
         next,
     })
 }
 
 // After the operands a newline or the end of the source.
-fn line_end(src: &[u8], op: Op, start: usize, g: Given) -> NextStatement
-    ensures { λ r. ⌜ r ≡ finished (now (src .entry)) op start g ⌝ }
+fn line_end(src: &[u8], labelled: bool, op: Op, head: Lexeme, g: Given) -> NextStatement
+    ensures { λ r. ⌜ r ≡ finished (now (src .entry)) labelled op (head .start) g ⌝ }
 {
     let t = next_lexeme(src, g.stop);
     if t.sort == 9 {
-        return read_of(op, start, g, t.end);
+        return read_of(labelled, op, head, g, t.end);
     }
     if t.sort == 10 {
-        return read_of(op, start, g, t.end);
+        return read_of(labelled, op, head, g, t.end);
     }
     unfit(t)
 }
 
 // The statement of a row whose first token this is.
-fn row_read(src: &[u8], row: Row, t: Lexeme, other: u16) -> NextStatement
-    ensures { λ r. ⌜ r ≡ rowStep (now (src .entry)) (row .op) (fieldsBy (row .count) (row .first) (row .second) (row .third)) other (row .base) (t .start) (t .end) ⌝ }
+fn row_read(src: &[u8], labelled: bool, row: Row, t: Lexeme, other: u16) -> NextStatement
+    ensures { λ r. ⌜ r ≡ rowStep (now (src .entry)) labelled (row .op) (fieldsBy (row .count) (row .first) (row .second) (row .third)) other (row .base) (t .start) (t .end) ⌝ }
 {
     let op = row.op;
     let step = lines::operands_from(src, t.end, row, other);
     match step {
-        Step::Took(g) => line_end(src, op, t.start, g),
+        Step::Took(g) => line_end(src, labelled, op, t, g),
         Step::Refused { number, start, end } => NextStatement::Refused { number, start, end },
     }
 }
@@ -139,29 +143,29 @@ fn without_operands(row: Row) -> Row
 }
 
 // NOP's operand may be left out; a wrong token there is 13.
-fn nop_read(src: &[u8], row: Row, t: Lexeme) -> NextStatement
-    ensures { λ r. ⌜ r ≡ nopStep (now (src .entry)) row (t .start) (t .end) ⌝ }
+fn nop_read(src: &[u8], labelled: bool, row: Row, t: Lexeme) -> NextStatement
+    ensures { λ r. ⌜ r ≡ nopStep (now (src .entry)) labelled row (t .start) (t .end) ⌝ }
 {
     let after = next_lexeme(src, t.end);
     if after.sort == 9 {
-        return row_read(src, without_operands(row), t, 13);
+        return row_read(src, labelled, without_operands(row), t, 13);
     }
     if after.sort == 10 {
-        return row_read(src, without_operands(row), t, 13);
+        return row_read(src, labelled, without_operands(row), t, 13);
     }
-    row_read(src, row, t, 13)
+    row_read(src, labelled, row, t, 13)
 }
 
-// The statement of an instruction.
-fn instruction(src: &[u8], t: Lexeme) -> NextStatement
+// The statement of an instruction, with labels before it or none.
+fn instruction(src: &[u8], labelled: bool, t: Lexeme) -> NextStatement
     requires { ⌜ t .value < 32 ⌝ }
-    ensures { λ r. ⌜ ((ls : List Name) (k : Kind) → r ≡ codedStatement (instrRead (now (src .entry)) ls (getD instructions (t .value) noRow) (tokenIn k (span (t .start) (t .end))))) ⌝ }
+    ensures { λ r. ⌜ ((ls : List Name) (k : Kind) → labelled ≡ not (eqb (length ls) 0) → r ≡ codedStatement (instrRead (now (src .entry)) ls (getD instructions (t .value) noRow) (tokenIn k (span (t .start) (t .end))))) ⌝ }
 {
     let row = statement_rows::row_at(t.value as usize);
     if row.base == 0 {
-        return nop_read(src, row, t);
+        return nop_read(src, labelled, row, t);
     }
-    row_read(src, row, t, 14)
+    row_read(src, labelled, row, t, 14)
 }
 
 // A directive's name: the part of the source after the dot.
@@ -181,13 +185,13 @@ fn name_after(src: &[u8], dot: usize, end: usize) -> &[u8]
     &src[start..end]
 }
 
-// The statement of a directive; an unknown one is 13.
-fn directive(src: &[u8], t: Lexeme) -> NextStatement
-    ensures { λ r. ⌜ ((ls : List Name) (k : Kind) → r ≡ codedStatement (dotRead (now (src .entry)) ls (map upper (part (now (src .entry)) (t .start + 1) (t .end))) (tokenIn k (span (t .start) (t .end))))) ⌝ }
+// The statement of a directive, with labels before it or none; an unknown one is 13.
+fn directive(src: &[u8], labelled: bool, t: Lexeme) -> NextStatement
+    ensures { λ r. ⌜ ((ls : List Name) (k : Kind) → labelled ≡ not (eqb (length ls) 0) → r ≡ codedStatement (dotRead (now (src .entry)) ls (map upper (part (now (src .entry)) (t .start + 1) (t .end))) (tokenIn k (span (t .start) (t .end))))) ⌝ }
 {
     let code = statement_rows::directive_code(name_after(src, t.start, t.end));
     if code < 38 {
-        return row_read(src, statement_rows::row_at(code), t, 14);
+        return row_read(src, labelled, statement_rows::row_at(code), t, 14);
     }
     refused(13, t)
 }
@@ -197,12 +201,12 @@ pub fn next_statement(src: &[u8], at: usize) -> NextStatement
     ensures { λ r. ⌜ r ≡ codedStatement (nextStatement (now (src .entry)) at) ⌝ }
 {
     let walk = labels::walk_labels(src, at);
-    let t = next_lexeme(src, walk.head);
+    let t = walk.token;
     if t.sort == 5 {
-        return instruction(src, t);
+        return instruction(src, walk.labelled, t);
     }
     if t.sort == 6 {
-        return directive(src, t);
+        return directive(src, walk.labelled, t);
     }
     if t.sort == 3 {
         return refused(16, t);

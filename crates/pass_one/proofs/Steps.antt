@@ -1,5 +1,6 @@
 -- What each way through a step of pass one shows. Assumes nothing.
 use mathlib.Core.Path.{_≡_, refl, sym, _∙_, ap}
+use mathlib.Core.Bool.{false}
 use mathlib.Core.List.{List, [], _∷_}
 use Prim.Native.Nat.{ℕ, _+_, _-_, _≤_, _<_}
 use native.Mathlib.Omega.{arith}
@@ -68,6 +69,15 @@ module _ (rs qs src : List ℕ) (o : code.One) (st : Statement) (w : Stands src 
           kept = u .kept;
         } in
         then-went rs qs src rs′ qs′ o (λ v. directed (s .op) s v) a (k at s f) (λ b. advanced (sizeOf (s .op) s) (s .place) b) b q rs′ qs′ r v
+
+-- WITHOUT LABELS
+module _ (rs qs src : List ℕ) (o : code.One) (st : Statement) (rs′ qs′ : List ℕ) (r : Stepped) (z : st .labelled ≡ false)
+    (k : (at : ℕ) (s : Stmt) → Faithful src at st s → Stepping rs qs src rs′ qs′ o (stepOn s) r) where
+  pub step-bare : (at : ℕ) (s : Stmt) → Faithful src at st s → Stepping rs qs src rs′ qs′ o (stepOne s) r
+  unfolding stepOne labelled
+  step-bare at s f =
+      let q : stepOne s (seen rs qs src o) ≡ stepOn s (seen rs qs src o) = ap (λ (ls : List Name). labelled ls (s .place) (seen rs qs src o) >>= stepOn s) (f .unlabelled z) in
+      record { rule = k at s f .rule ∙ sym q; kept = k at s f .kept }
 
 -- FROM THE LABELS ON
 pub step-held : (rs qs src : List ℕ) (o : code.One) → Held rs qs src o → (rs′ : List ℕ) (f : One → Outcome One) (a : Stepped) → naming.Stepping rs src rs′ o f a → (b : code.One) → a ≡ Went b → Held rs′ qs src b

@@ -43,7 +43,7 @@ fn step_on(
 }
 
 // A statement that was looked for at a place, from its labels on.
-fn step(
+fn step_labelled(
     src: &[u8],
     labels: &mut [u32],
     relocations: &mut [u32],
@@ -65,6 +65,24 @@ fn step(
             end2: _,
         } => answer,
     }
+}
+
+// A statement that was looked for at a place. Where it has no labels, none is looked for.
+fn step(
+    src: &[u8],
+    labels: &mut [u32],
+    relocations: &mut [u32],
+    at: usize,
+    st: Statement,
+    o: One,
+) -> Stepped
+    requires { ⌜ Held (now labels) (now relocations) (now src) o × Stands (now src) st ⌝ }
+    ensures { λ r. ⌜ ((s : Stmt) → Faithful (now (src .entry)) at st s → Stepping (now (labels .entry)) (now (relocations .entry)) (now (src .entry)) (now (labels .exit)) (now (relocations .exit)) o (stepOne s) r) ⌝ }
+{
+    if st.labelled {
+        return step_labelled(src, labels, relocations, at, st, o);
+    }
+    step_on(src, labels, relocations, st, o)
 }
 
 // Pass one before the first statement.

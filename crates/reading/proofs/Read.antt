@@ -1,11 +1,14 @@
 -- A statement that was read is the rules' statement. Assumes nothing.
 use mathlib.Core.Path.{_≡_, refl, _∙_, ap}
-use mathlib.Core.Bool.{Bool, true, false}
+use mathlib.Core.Bool.{Bool, true, false, not}
 use mathlib.Core.List.{List, [], _∷_}
 use mathlib.Core.Logic.{_⊎_, inl, inr}
 use mathlib.Core.Option.{Option, none, some}
 use Prim.Native.Nat.{ℕ, _+_, _-_, _≤_, _<_}
 use native.Mathlib.Omega.{arith}
+use borrow.Author.Tests.{ne-eqb}
+use lib.Dec.{eqb}
+use lib.ListN.{length}
 use Rattle.rules.specs.Base.{ok, require, _>>=_, Span}
 use Rattle.rules.specs.Tokens.{Token, nextToken}
 use Rattle.rules.specs.Words.{Op, instr, orig, fill, blkw, stringz, end, external}
@@ -99,6 +102,14 @@ module _ (s : List ℕ) (i : ℕ) (x : Read) (e : nextStatement s i ≡ ok (some
       other (inl z) k = absurd (k z)
       other (inr z) k = z
 
+-- a count that is not above zero
+no-labels : (ls : List Name) → not (eqb (length ls) 0) ≡ false → ls ≡ []
+no-labels [] e = refl
+no-labels (l ∷ ls) e =
+    let q : eqb (length (l ∷ ls)) 0 ≡ false = ne-eqb (length (l ∷ ls)) 0 (λ (x : length (l ∷ ls) ≡ 0). omega arith) in
+    let y : _≡_ {A = Bool} true false = rw q at e in
+    let z : _≡_ {A = ℕ} 0 1 = cc in absurd (omega arith)
+
 -- THE LAW
 pub faithful : (src : List ℕ) (at : ℕ) (x : Read) (st : Statement) → nextStatement src at ≡ ok (some x) → codedRead x ≡ st → Faithful src at st (x .stmt)
 unfolding codedRead
@@ -107,6 +118,7 @@ faithful src at x st e q =
     let g = statement-goes src at x e in
     rw (← q) (record {
       labels = k .labels;
+      unlabelled = λ z. no-labels (x .stmt .labels) z;
       op = meant (x .stmt .op);
       bits = refl;
       low = k .low;

@@ -1,5 +1,6 @@
 -- What a statement, which holds places of the source, says of the rules' statement. Assumes nothing.
 use mathlib.Core.Path.{_≡_}
+use mathlib.Core.Bool.{false}
 use mathlib.Core.List.{List, [], _∷_}
 use mathlib.Core.Option.{Option, none, some}
 use Prim.Native.Nat.{ℕ, zero, suc, _+_, _-_, _≤_, _<_}
@@ -47,6 +48,7 @@ pub record Aimed (src : List ℕ) (st : Statement) (o : Option Target) : Type 0 
 -- s is the rules' statement of st, which was looked for at a place
 pub record Faithful (src : List ℕ) (at : ℕ) (st : Statement) (s : Stmt) : Type 0 where
   pub labels : s .labels ≡ labelsAt src at
+  pub unlabelled : st .labelled ≡ false → s .labels ≡ []
   pub op : s .op ≡ meantOp (st .op)
   pub bits : s .bits ≡ st .bits
   -- its bits leave room for those of its label operand

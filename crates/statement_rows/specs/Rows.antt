@@ -1,5 +1,5 @@
 -- The table of rows as the code has it. Assumes nothing.
-use Prim.Native.Nat.{ℕ, zero, suc, _+_}
+use Prim.Native.Nat.{ℕ, zero, suc, _+_, _*_}
 use mathlib.Core.List.{List, [], _∷_}
 use mathlib.Core.Path.{_≡_}
 use lib.Dec.{eqb}
@@ -60,6 +60,14 @@ table =
 
 unfoldable pub cells : ℕ → List ℕ
 cells i = getD table i []
+
+-- a row as one number: the word, then a hexadecimal digit for the count and one for each field
+abbrev pub digitsFrom : ℕ → List ℕ → ℕ
+digitsFrom n [] = n
+digitsFrom n (d ∷ ds) = digitsFrom (n * 16 + d) ds
+
+unfoldable pub digitsAt : ℕ → ℕ
+digitsAt i = digitsFrom 0 (cells i)
 
 -- a field by its number
 unfoldable pub fieldAt : ℕ → Field

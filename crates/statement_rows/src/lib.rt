@@ -2,11 +2,10 @@
 use operands::Field;
 ghost use mathlib.Core.Path.{_≡_};
 ghost use mathlib.Core.List.{map};
-ghost use Prim.Native.Nat.{_<_};
-ghost use lib.ListN.{getD};
+ghost use Prim.Native.Nat.{_≤_, _<_};
 ghost use Rattle.rules.specs.Tokens.{upper};
 ghost use Rattle.rules.specs.Words.{directives};
-ghost use Rattle.statement_rows.specs.Rows.{cells, fieldAt, opAt, rowAt, codeFrom};
+ghost use Rattle.statement_rows.specs.Rows.{digitsAt, fieldAt, opAt, rowAt, codeFrom};
 
 // What a statement does.
 pub enum Op {
@@ -29,58 +28,75 @@ pub struct Row {
     pub third: Field,
 }
 
-// A row has the word, the count of operands, and three fields by number. The instructions stand in the order of their codes, then the directives.
-const ROWS: [[u16; 5]; 38] = [
-    [0x1000, 3, 0, 1, 2], // ADD
-    [0x5000, 3, 0, 1, 2], // AND
-    [0x903f, 2, 0, 1, 0], // NOT
-    [0x0e00, 1, 4, 0, 0], // BR
-    [0x0200, 1, 4, 0, 0], // BRP
-    [0x0400, 1, 4, 0, 0], // BRZ
-    [0x0600, 1, 4, 0, 0], // BRZP
-    [0x0800, 1, 4, 0, 0], // BRN
-    [0x0a00, 1, 4, 0, 0], // BRNP
-    [0x0c00, 1, 4, 0, 0], // BRNZ
-    [0x0e00, 1, 4, 0, 0], // BRNZP
-    [0xc000, 1, 1, 0, 0], // JMP
-    [0x4800, 1, 5, 0, 0], // JSR
-    [0x4000, 1, 1, 0, 0], // JSRR
-    [0x2000, 2, 0, 4, 0], // LD
-    [0xa000, 2, 0, 4, 0], // LDI
-    [0x6000, 3, 0, 1, 3], // LDR
-    [0xe000, 2, 0, 4, 0], // LEA
-    [0x3000, 2, 0, 4, 0], // ST
-    [0xb000, 2, 0, 4, 0], // STI
-    [0x7000, 3, 0, 1, 3], // STR
-    [0xf000, 1, 6, 0, 0], // TRAP
-    [0x0000, 1, 4, 0, 0], // NOP
-    [0xc1c0, 0, 0, 0, 0], // RET
-    [0x8000, 0, 0, 0, 0], // RTI
-    [0xf020, 0, 0, 0, 0], // GETC
-    [0xf021, 0, 0, 0, 0], // OUT
-    [0xf021, 0, 0, 0, 0], // PUTC
-    [0xf022, 0, 0, 0, 0], // PUTS
-    [0xf023, 0, 0, 0, 0], // IN
-    [0xf024, 0, 0, 0, 0], // PUTSP
-    [0xf025, 0, 0, 0, 0], // HALT
-    [0x0000, 1, 7, 0, 0], // .ORIG
-    [0x0000, 1, 8, 0, 0], // .FILL
-    [0x0000, 1, 7, 0, 0], // .BLKW
-    [0x0000, 1, 10, 0, 0], // .STRINGZ
-    [0x0000, 0, 0, 0, 0], // .END
-    [0x0000, 1, 9, 0, 0], // .EXTERNAL
-];
-
-// A cell of the table.
-fn cell(i: usize, j: usize) -> u16
-    requires { ⌜ (i < 38) × (j < 5) ⌝ }
-    ensures { λ r. ⌜ r ≡ getD (cells i) j 0 ⌝ }
+// The row of an instruction, by its code, as one number: in hexadecimal the word, then a digit for the count of operands and one for each of three fields.
+fn instruction_digits(i: usize) -> u32
+    requires { ⌜ i < 32 ⌝ }
+    ensures { λ r. ⌜ r ≡ digitsAt i ⌝ }
 {
-    ROWS[i][j]
+    match i {
+        0 => 0x1000_3012, // ADD
+        1 => 0x5000_3012, // AND
+        2 => 0x903f_2010, // NOT
+        3 => 0x0e00_1400, // BR
+        4 => 0x0200_1400, // BRP
+        5 => 0x0400_1400, // BRZ
+        6 => 0x0600_1400, // BRZP
+        7 => 0x0800_1400, // BRN
+        8 => 0x0a00_1400, // BRNP
+        9 => 0x0c00_1400, // BRNZ
+        10 => 0x0e00_1400, // BRNZP
+        11 => 0xc000_1100, // JMP
+        12 => 0x4800_1500, // JSR
+        13 => 0x4000_1100, // JSRR
+        14 => 0x2000_2040, // LD
+        15 => 0xa000_2040, // LDI
+        16 => 0x6000_3013, // LDR
+        17 => 0xe000_2040, // LEA
+        18 => 0x3000_2040, // ST
+        19 => 0xb000_2040, // STI
+        20 => 0x7000_3013, // STR
+        21 => 0xf000_1600, // TRAP
+        22 => 0x0000_1400, // NOP
+        23 => 0xc1c0_0000, // RET
+        24 => 0x8000_0000, // RTI
+        25 => 0xf020_0000, // GETC
+        26 => 0xf021_0000, // OUT
+        27 => 0xf021_0000, // PUTC
+        28 => 0xf022_0000, // PUTS
+        29 => 0xf023_0000, // IN
+        30 => 0xf024_0000, // PUTSP
+        _ => 0xf025_0000, // HALT
+    }
+}
+
+// The row of a directive in the same form. The directives stand after the instructions.
+fn directive_digits(i: usize) -> u32
+    requires { ⌜ (32 ≤ i) × (i < 38) ⌝ }
+    ensures { λ r. ⌜ r ≡ digitsAt i ⌝ }
+{
+    match i {
+        32 => 0x0000_1700, // .ORIG
+        33 => 0x0000_1800, // .FILL
+        34 => 0x0000_1700, // .BLKW
+        35 => 0x0000_1a00, // .STRINGZ
+        36 => 0x0000_0000, // .END
+        _ => 0x0000_1900, // .EXTERNAL
+    }
+}
+
+// The row at a place of the table as one number.
+fn digits(i: usize) -> u32
+    requires { ⌜ i < 38 ⌝ }
+    ensures { λ r. ⌜ r ≡ digitsAt i ⌝ }
+{
+    if i < 32 {
+        return instruction_digits(i);
+    }
+    directive_digits(i)
 }
 
 // A field by its number.
-fn field_of(k: u16) -> Field
+fn field_of(k: u32) -> Field
     ensures { λ r. ⌜ r ≡ fieldAt k ⌝ }
 {
     match k {
@@ -118,13 +134,14 @@ pub fn row_at(i: usize) -> Row
     requires { ⌜ i < 38 ⌝ }
     ensures { λ r. ⌜ r ≡ rowAt i ⌝ }
 {
+    let row = digits(i);
     Row {
         op: op_of(i),
-        base: cell(i, 0),
-        count: cell(i, 1),
-        first: field_of(cell(i, 2)),
-        second: field_of(cell(i, 3)),
-        third: field_of(cell(i, 4)),
+        base: (row / 65536) as u16,
+        count: (row / 4096 % 16) as u16,
+        first: field_of(row / 256 % 16),
+        second: field_of(row / 16 % 16),
+        third: field_of(row % 16),
     }
 }
 

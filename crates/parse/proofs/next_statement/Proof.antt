@@ -7,9 +7,6 @@ use Rattle.parse.proofs.next_statement.Tie as tie
 walk-labels-requires : tie.Need-walk-labels-requires
 walk-labels-requires c κs = search needs
 
-next-lexeme-requires : tie.Need-next-lexeme-requires
-next-lexeme-requires c κs = search needs
-
 instruction-requires : tie.Need-instruction-requires
 instruction-requires c κs = search (needs, code-few)
 
@@ -48,7 +45,6 @@ next-statement-spec =
     tie.close
     (tie.spec
     walk-labels-requires
-    next-lexeme-requires
     instruction-requires
     returns
     directive-requires
