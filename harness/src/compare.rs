@@ -59,8 +59,8 @@ impl Tally {
         }
     }
 
-    /// Compares all answers on one source, and gives the library's answer with full buffers.
-    pub fn source(&mut self, src: &[u8], every_room: bool) -> raw::Answer {
+    /// Compares all answers on one source, and gives the library's answers of assembling with the sizes of the buffers lent, full ones first.
+    pub fn source(&mut self, src: &[u8], every_room: bool) -> Vec<(Sizes, raw::Answer)> {
         self.sources += 1;
         let kept = src.to_vec();
         let mut notes = Notes::default();
@@ -74,7 +74,8 @@ impl Tally {
             Ok(o) if answer[0] == 0 => self.object(src, o, &mut notes),
             _ => {}
         }
-        self.rooms(src, &expected, every_room);
+        let mut answers = vec![(Sizes::FULL, answer)];
+        answers.extend(self.rooms(src, &expected, every_room));
         if kept != src {
             self.differs(&kept, "the source is changed".to_string());
         }
@@ -82,7 +83,7 @@ impl Tally {
         notes.named.dedup();
         notes.named.iter().for_each(|name| *self.named.entry(name).or_default() += 1);
         notes.differences.into_iter().for_each(|what| self.differs(src, what));
-        answer
+        answers
     }
 
     fn tokens(&mut self, src: &[u8], expected: &Reference) {
@@ -151,7 +152,7 @@ impl Tally {
     }
 
     /// Other rooms, all of them or one: words and marks of none, of one, exactly enough, one short; a table one short; all longer than needed.
-    fn rooms(&mut self, src: &[u8], expected: &Reference, all: bool) {
+    fn rooms(&mut self, src: &[u8], expected: &Reference, all: bool) -> Vec<(Sizes, raw::Answer)> {
         let full = Sizes::FULL;
         let total = expected.total.unwrap_or(0).min(raw::WORDS);
         let less = total.saturating_sub(1);
@@ -169,9 +170,8 @@ impl Tally {
             Sizes::LONG,
         ];
         let one = self.random.below(rooms.len());
-        for sizes in if all { &rooms[..] } else { &rooms[one..one + 1] } {
-            self.assembled(src, expected, *sizes);
-        }
+        let tried = if all { &rooms[..] } else { &rooms[one..one + 1] };
+        tried.iter().map(|sizes| (*sizes, self.assembled(src, expected, *sizes))).collect()
     }
 
     /// What is asked of an accepted object, which still stands in the buffers.

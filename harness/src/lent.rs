@@ -48,6 +48,19 @@ impl Sizes {
         names: raw::NAMES + MORE,
     };
 
+    /// How many numbers each lacks of its full size, where none is longer.
+    pub fn lacking(&self) -> Option<[usize; 6]> {
+        let f = Sizes::FULL;
+        Some([
+            f.blocks.checked_sub(self.blocks)?,
+            f.words.checked_sub(self.words)?,
+            f.marks.checked_sub(self.marks)?,
+            f.labels.checked_sub(self.labels)?,
+            f.relocations.checked_sub(self.relocations)?,
+            f.names.checked_sub(self.names)?,
+        ])
+    }
+
     pub fn short(&self) -> bool {
         let f = Sizes::FULL;
         self.blocks < f.blocks || self.labels < f.labels || self.relocations < f.relocations || self.names < f.names

@@ -21,10 +21,10 @@ use sample::Sample;
 
 const USAGE: &str = "\
 usage: harness compare [--count N] [--seed N] [--sample FILE]
-       harness bench
+       harness bench [FILE...]
   compare  N generated sources (default 200,000) and the fixed ones; exit code 1 where anything differs that docs/DIFFERENCES.md does not name
   --sample writes some of them with their answers, where nothing differs
-  bench    the crate and the library on the same inputs
+  bench    the crate and the library on the same inputs, or on the sources named
 ";
 
 struct Options {
@@ -53,9 +53,9 @@ fn compare(o: &Options) -> bool {
     compare::words(&mut tally);
     let fixed = fixed::short().into_iter().chain(fixed::long()).map(|src| (src, true));
     for (src, fixed) in fixed.chain((0..o.count).map(|_| (generate::source(&mut random), false))) {
-        let answer = tally.source(&src, fixed);
+        let answers = tally.source(&src, fixed);
         if o.sample.is_some() {
-            sample.offer(&src, &answer);
+            answers.iter().for_each(|(sizes, answer)| sample.offer(&src, *sizes, answer));
         }
     }
     report(&tally);
@@ -83,16 +83,17 @@ fn report(tally: &Tally) {
 fn main() {
     refusal::quiet();
     let mut args = std::env::args().skip(1);
-    let done = match (args.next().as_deref(), options(args)) {
-        (Some("compare"), Some(o)) => compare(&o),
-        (Some("bench"), Some(_)) => {
-            bench::bench();
-            true
+    let done = match args.next().as_deref() {
+        Some("compare") => options(args).map(|o| compare(&o)),
+        Some("bench") => {
+            bench::bench(&args.collect::<Vec<_>>());
+            Some(true)
         }
-        _ => {
-            eprint!("{USAGE}");
-            std::process::exit(2);
-        }
+        _ => None,
+    };
+    let Some(done) = done else {
+        eprint!("{USAGE}");
+        std::process::exit(2);
     };
     std::process::exit(i32::from(!done));
 }

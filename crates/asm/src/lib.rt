@@ -3,20 +3,18 @@ use counter::One;
 use counter::Stepped;
 use emitting::Emitted;
 use emitting::Two;
-use parse::Statements;
 ghost use mathlib.Core.Path.{_≡_};
 ghost use mathlib.Core.Bool.{false};
 ghost use mathlib.Core.List.{List};
-ghost use Prim.Native.Nat.{_*_, _≤_};
+ghost use Prim.Native.Nat.{_≤_};
 ghost use lib.ListN.{length};
 ghost use Rattle.rules.specs.Base.{ok, refuse2, span};
 ghost use Rattle.rules.specs.Statements.{Stmt, statements};
-ghost use Rattle.rules.specs.Buffers.{six, short, lentWords, lay, relocCells};
-ghost use Rattle.label_layout.specs.Laying.{LabelRoom, LaidLabels};
-ghost use Rattle.relocation_table.specs.Pending.{notes};
-ghost use Rattle.relocation_table.specs.Resolved.{labelsOf, Resolved};
+ghost use Rattle.rules.specs.Buffers.{six, short, lentWords};
 ghost use Rattle.filling.specs.Tables.{seen};
-ghost use Rattle.asm.specs.Call.{Leaves, Assembled, Readable, Begun, Roomy, Wrote, Tall, accepting, afterTwo, afterOne, passes};
+ghost use Rattle.source_tables.specs.Tabled.{Begun};
+ghost use Rattle.object_writing.specs.Made.{afterTwo};
+ghost use Rattle.asm.specs.Call.{Leaves, Assembled, Started, accepting, refusing};
 
 // Number 0 is acceptance, with counts; any other is a refusal with its two places, and counts of 0.
 pub struct Answer {
@@ -29,6 +27,23 @@ pub struct Answer {
     pub words: usize,
     pub labels: usize,
     pub relocations: usize,
+}
+
+// The answer of a refusal.
+fn refusal(number: u16, start: usize, end: usize, start2: usize, end2: usize) -> Answer
+    ensures { λ r. ⌜ r ≡ refusing number start end start2 end2 ⌝ }
+{
+    Answer {
+        number,
+        start,
+        end,
+        start2,
+        end2,
+        blocks: 0,
+        words: 0,
+        labels: 0,
+        relocations: 0,
+    }
 }
 
 // A refusal: every buffer is zero.
@@ -48,17 +63,7 @@ fn refuse(
     ensures { λ r. ⌜ Leaves (refuse2 number (span start end) (span start2 end2)) (six (now (blocks .entry)) (now (words .entry)) (now (marks .entry)) (now (labels .entry)) (now (relocations .entry)) (now (names .entry))) r (six (now (blocks .exit)) (now (words .exit)) (now (marks .exit)) (now (labels .exit)) (now (relocations .exit)) (now (names .exit))) ⌝ }
 {
     object_layout::clear(blocks, words, marks, labels, relocations, names);
-    Answer {
-        number,
-        start,
-        end,
-        start2,
-        end2,
-        blocks: 0,
-        words: 0,
-        labels: 0,
-        relocations: 0,
-    }
+    refusal(number, start, end, start2, end2)
 }
 
 // An object with these tables and blocks.
@@ -78,91 +83,40 @@ fn accepted(o: One, t: Two) -> Answer
     }
 }
 
-// Labels, names and relocations in the one layout.
-fn lay_tables(
+// What is refused before pass two, in the rule's order: 42, then what goes before the end of pass one, then 41. No lent buffer is written.
+fn first_half(
     src: &[u8],
-    rows: &[u32],
-    pending: &[u32],
-    o: One,
-    labels: &mut [u32],
-    relocations: &mut [u32],
-    names: &mut [u8],
-)
-    requires { ⌜ Resolved (now pending) (now src) (o .relocations) (now rows) (o .labels) × LabelRoom (o .labels) (now labels) (now names) × (o .relocations * 2 ≤ length (now relocations)) ⌝ }
-    ensures { λ _. ⌜ LaidLabels (labelsOf (o .labels) (now (rows .entry)) (now (src .entry))) (now (labels .entry)) (now (names .entry)) (now (labels .exit)) (now (names .exit)) ⌝ }
-    ensures { λ _. ⌜ now (relocations .exit) ≡ lay (relocCells (labelsOf (o .labels) (now (rows .entry)) (now (src .entry))) (notes (o .relocations) (now (pending .entry)) (now (src .entry)))) (length (now (relocations .entry))) ⌝ }
+    small: bool,
+    room: usize,
+    rows: &mut [u32],
+    pending: &mut [u32],
+) -> Stepped
+    requires { ⌜ (4096 ≤ length (now rows)) × (4096 ≤ length (now pending)) ⌝ }
+    ensures { λ r. ⌜ Started small room (now (rows .exit)) (now (pending .exit)) (now (src .entry)) r ⌝ }
 {
-    let n = o.labels;
-    let m = o.relocations;
-    symbols::lay_symbols(rows, src, n, labels, names);
-    relocation_table::lay_relocations(pending, src, m, rows, n, relocations);
-}
-
-// Pass two into cleared buffers.
-fn write_blocks(
-    src: &[u8],
-    rows: &[u32],
-    n: usize,
-    blocks: &mut [u16],
-    words: &mut [u16],
-    marks: &mut [u8],
-) -> Emitted
-    requires { ⌜ Roomy (now rows) (now src) n (now blocks) (now words) (now marks) ⌝ }
-    ensures { λ r. ⌜ Wrote (now (rows .entry)) (now (src .entry)) n (now (blocks .exit)) (now (words .exit)) (now (marks .exit)) r ⌝ }
-{
-    buffers::zero_u16(blocks);
-    buffers::zero_u16(words);
-    buffers::zero_u8(marks);
-    let mut origs = [0u32; 128];
-    pass_two::pass_two(src, rows, n, blocks, &mut origs, words, marks)
-}
-
-// What pass two answers: the object in its layout, or the refusal.
-fn finish(
-    answer: Emitted,
-    src: &[u8],
-    rows: &[u32],
-    pending: &[u32],
-    o: One,
-    blocks: &mut [u16],
-    words: &mut [u16],
-    marks: &mut [u8],
-    labels: &mut [u32],
-    relocations: &mut [u32],
-    names: &mut [u8],
-) -> Answer
-    requires { ⌜ Begun (now rows) (now pending) (now src) o × Wrote (now rows) (now src) (o .labels) (now blocks) (now words) (now marks) answer × Tall (now labels) (now relocations) (now names) ⌝ }
-    ensures { λ r. ⌜ ((ss : List Stmt) → statements (now (src .entry)) ≡ ok ss → Leaves (afterTwo ss (seen (now (rows .entry)) (now (pending .entry)) (now (src .entry)) o)) (six (now (blocks .entry)) (now (words .entry)) (now (marks .entry)) (now (labels .entry)) (now (relocations .entry)) (now (names .entry))) r (six (now (blocks .exit)) (now (words .exit)) (now (marks .exit)) (now (labels .exit)) (now (relocations .exit)) (now (names .exit)))) ⌝ }
-{
+    if small {
+        return counter::refused(42, 0, 0);
+    }
+    let answer = source_tables::source_tables(src, rows, pending);
     match answer {
-        Emitted::Went(t) => {
-            lay_tables(src, rows, pending, o, labels, relocations, names);
-            accepted(o, t)
+        Stepped::Went(o) => {
+            if room < o.words {
+                return counter::refused(41, 0, 0);
+            }
+            answer
         }
-        Emitted::Refused {
-            number,
-            start,
-            end,
-            start2,
-            end2,
-        } => refuse(
-            blocks,
-            words,
-            marks,
-            labels,
-            relocations,
-            names,
-            number,
-            start,
-            end,
-            start2,
-            end2,
-        ),
+        Stepped::Refused {
+            number: _,
+            start: _,
+            end: _,
+            start2: _,
+            end2: _,
+        } => answer,
     }
 }
 
-// Pass two, where the lent words hold those of all blocks, and the object in its layout.
-fn write_object(
+// Pass two, where the lent words hold those of all blocks: the object in its layout, or a refusal and every buffer zero.
+fn second_half(
     src: &[u8],
     rows: &[u32],
     pending: &[u32],
@@ -177,10 +131,7 @@ fn write_object(
     requires { ⌜ Begun (now rows) (now pending) (now src) o × (o .words ≤ lentWords (now words) (now marks)) × (short (six (now blocks) (now words) (now marks) (now labels) (now relocations) (now names)) ≡ false) ⌝ }
     ensures { λ r. ⌜ ((ss : List Stmt) → statements (now (src .entry)) ≡ ok ss → Leaves (afterTwo ss (seen (now (rows .entry)) (now (pending .entry)) (now (src .entry)) o)) (six (now (blocks .entry)) (now (words .entry)) (now (marks .entry)) (now (labels .entry)) (now (relocations .entry)) (now (names .entry))) r (six (now (blocks .exit)) (now (words .exit)) (now (marks .exit)) (now (labels .exit)) (now (relocations .exit)) (now (names .exit)))) ⌝ }
 {
-    let n = o.labels;
-    let answer = write_blocks(src, rows, n, blocks, words, marks);
-    finish(
-        answer,
+    let answer = object_writing::write_object(
         src,
         rows,
         pending,
@@ -191,57 +142,23 @@ fn write_object(
         labels,
         relocations,
         names,
-    )
-}
-
-// 41 where the lent words do not hold those of all blocks, then pass two.
-fn second_pass(
-    src: &[u8],
-    rows: &[u32],
-    pending: &[u32],
-    o: One,
-    blocks: &mut [u16],
-    words: &mut [u16],
-    marks: &mut [u8],
-    labels: &mut [u32],
-    relocations: &mut [u32],
-    names: &mut [u8],
-) -> Answer
-    requires { ⌜ Begun (now rows) (now pending) (now src) o × (short (six (now blocks) (now words) (now marks) (now labels) (now relocations) (now names)) ≡ false) ⌝ }
-    ensures { λ r. ⌜ ((ss : List Stmt) → statements (now (src .entry)) ≡ ok ss → Leaves (afterOne (lentWords (now (words .entry)) (now (marks .entry))) ss (seen (now (rows .entry)) (now (pending .entry)) (now (src .entry)) o)) (six (now (blocks .entry)) (now (words .entry)) (now (marks .entry)) (now (labels .entry)) (now (relocations .entry)) (now (names .entry))) r (six (now (blocks .exit)) (now (words .exit)) (now (marks .exit)) (now (labels .exit)) (now (relocations .exit)) (now (names .exit)))) ⌝ }
-{
-    let room = object::lent_words(words, marks);
-    if room < o.words {
-        return refuse(
-            blocks,
-            words,
-            marks,
-            labels,
-            relocations,
-            names,
-            41,
-            0,
-            0,
-            0,
-            0,
-        );
+    );
+    match answer {
+        Emitted::Went(t) => accepted(o, t),
+        Emitted::Refused {
+            number,
+            start,
+            end,
+            start2,
+            end2,
+        } => refusal(number, start, end, start2, end2),
     }
-    write_object(
-        src,
-        rows,
-        pending,
-        o,
-        blocks,
-        words,
-        marks,
-        labels,
-        relocations,
-        names,
-    )
 }
 
-// Both passes of a source whose statements are read. The tables of pass one grow in arrays of their own, 16,384 bytes each.
-fn both_passes(
+// Any source to an object in lent buffers: 42, 11, 12, the lexer's refusals, those of statements, pass one, 41, pass two.
+// An accepted source is walked twice, once a pass: pass one reads every statement, so that its going to the end leaves only 12 of what goes before it.
+// The tables of pass one grow in arrays of their own, 16,384 bytes each.
+pub fn assemble(
     src: &[u8],
     blocks: &mut [u16],
     words: &mut [u16],
@@ -250,13 +167,14 @@ fn both_passes(
     relocations: &mut [u32],
     names: &mut [u8],
 ) -> Answer
-    requires { ⌜ Readable (now src) × (short (six (now blocks) (now words) (now marks) (now labels) (now relocations) (now names)) ≡ false) ⌝ }
-    ensures { λ r. ⌜ ((ss : List Stmt) → statements (now (src .entry)) ≡ ok ss → Leaves (passes (lentWords (now (words .entry)) (now (marks .entry))) ss) (six (now (blocks .entry)) (now (words .entry)) (now (marks .entry)) (now (labels .entry)) (now (relocations .entry)) (now (names .entry))) r (six (now (blocks .exit)) (now (words .exit)) (now (marks .exit)) (now (labels .exit)) (now (relocations .exit)) (now (names .exit)))) ⌝ }
+    ensures { λ r. ⌜ Assembled (six (now (blocks .entry)) (now (words .entry)) (now (marks .entry)) (now (labels .entry)) (now (relocations .entry)) (now (names .entry))) (now (src .entry)) r (six (now (blocks .exit)) (now (words .exit)) (now (marks .exit)) (now (labels .exit)) (now (relocations .exit)) (now (names .exit))) ⌝ }
 {
+    let small = object::is_short(blocks, words, marks, labels, relocations, names);
+    let room = object::lent_words(words, marks);
     let mut rows = [0u32; 4096];
     let mut pending = [0u32; 4096];
-    match pass_one::pass_one(src, &mut rows, &mut pending) {
-        Stepped::Went(o) => second_pass(
+    match first_half(src, small, room, &mut rows, &mut pending) {
+        Stepped::Went(o) => second_half(
             src,
             &rows,
             &pending,
@@ -286,53 +204,6 @@ fn both_passes(
             end,
             start2,
             end2,
-        ),
-    }
-}
-
-// Any source to an object in lent buffers: 42, 11, 12, the lexer's refusals, those of statements, pass one, 41, pass two.
-pub fn assemble(
-    src: &[u8],
-    blocks: &mut [u16],
-    words: &mut [u16],
-    marks: &mut [u8],
-    labels: &mut [u32],
-    relocations: &mut [u32],
-    names: &mut [u8],
-) -> Answer
-    ensures { λ r. ⌜ Assembled (six (now (blocks .entry)) (now (words .entry)) (now (marks .entry)) (now (labels .entry)) (now (relocations .entry)) (now (names .entry))) (now (src .entry)) r (six (now (blocks .exit)) (now (words .exit)) (now (marks .exit)) (now (labels .exit)) (now (relocations .exit)) (now (names .exit))) ⌝ }
-{
-    if object::is_short(blocks, words, marks, labels, relocations, names) {
-        return refuse(
-            blocks,
-            words,
-            marks,
-            labels,
-            relocations,
-            names,
-            42,
-            0,
-            0,
-            0,
-            0,
-        );
-    }
-    match parse::check_source(src) {
-        Statements::Accepted => {
-            both_passes(src, blocks, words, marks, labels, relocations, names)
-        }
-        Statements::Refused { number, start, end } => refuse(
-            blocks,
-            words,
-            marks,
-            labels,
-            relocations,
-            names,
-            number,
-            start,
-            end,
-            0,
-            0,
         ),
     }
 }

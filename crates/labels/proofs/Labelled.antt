@@ -10,7 +10,7 @@ use lib.Dec.{eqb}
 use lib.ListN.{length}
 use Rattle.rules.specs.Statements.{Name, isMark, nameAt, tokenIs, stopAt, pastLines, pastColon, pastLabel, pastLabels, labelsAt}
 use Rattle.rules.proofs.Ahead.{Ends, token-ends, lines-on, lines-done, labels-on, labels-done, names-on, names-done}
-use Rattle.lexeme.specs.declared.Lexeme.{Lexeme}
+use Rattle.token.specs.declared.Lexeme.{Lexeme}
 use Rattle.lexeme.specs.Sorts.{kindBy, Stands}
 use Rattle.lexeme.proofs.Marks.{token-mark, stop-end, line-sort, end-sort}
 use Rattle.labels.specs.declared.Label.the-variants.{At, Nothing}

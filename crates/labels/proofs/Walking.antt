@@ -14,7 +14,7 @@ use Rattle.rules.specs.Tokens.{Kind, word, Token, tokenIn, nextToken}
 use Rattle.rules.specs.Words.{find, instructions}
 use Rattle.rules.specs.Statements.{Name, isMark, asWord, asLabel, asName, nameAt, tokenIs, stopAt, pastLines, pastColon, pastLabel}
 use Rattle.rules.proofs.Ahead.{lines-on, lines-done, line-ahead, colon-on, colon-done, name-token, name-refused}
-use Rattle.lexeme.specs.declared.Lexeme.{Lexeme}
+use Rattle.token.specs.declared.Lexeme.{Lexeme}
 use Rattle.lexeme.specs.Sorts.{nameOf, kindBy, Stands}
 use Rattle.lexeme.proofs.Marks.{token-mark, stop-end, line-sort, colon-sort, word-sort}
 use Rattle.labels.specs.declared.Label.{Label}

@@ -1,6 +1,6 @@
 // What stands before a statement's instruction or directive: newlines, and labels each with an optional colon.
-use lexeme::Lexeme;
 use lexeme::next_lexeme;
+use token::Lexeme;
 ghost use mathlib.Core.Path.{_≡_};
 ghost use Prim.Native.Nat.{_-_};
 ghost use Rattle.rules.specs.Statements.{pastColon, pastLines};

@@ -21,7 +21,7 @@ use Rattle.lookup.specs.Told.{said, found, Reversed}
 use Rattle.lookup.specs.declared.Said.{Said}
 use Rattle.lookup.specs.declared.Found.{Found}
 use Rattle.lookup.specs.declared.Found.the-variants as find
-use Rattle.asm.proofs.Single.{Single, source-single}
+use Rattle.walks.proofs.Single.{Single, source-single}
 use Rattle.asm.specs.Call.{Leaves}
 use Rattle.asm.specs.declared.Answer as asm
 use Rattle.lc3_answers.specs.declared.Reply.{Reply}

@@ -11,8 +11,8 @@ use Rattle.rules.specs.Objects.{Lab, outer, defined, Counts}
 use Rattle.rules.specs.Answers.{Answer, accepted, noCounts, refusal}
 use Rattle.token.specs.declared.Next.{Next}
 use Rattle.token.specs.declared.Next.the-variants as next
-use Rattle.lexeme.specs.declared.Lexeme.{Lexeme}
-use Rattle.lexeme.specs.Sorts.{lexeme, flatToken}
+use Rattle.token.specs.declared.Lexeme.{Lexeme}
+use Rattle.token.specs.Flat.{lexeme, flatToken}
 use Rattle.parse.specs.declared.Statements.{Statements}
 use Rattle.parse.specs.declared.Statements.the-variants as all
 use Rattle.list.specs.declared.Listed.{Listed}

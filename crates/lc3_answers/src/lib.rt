@@ -15,7 +15,7 @@ ghost use lib.ListN.{length, getD};
 ghost use Rattle.rules.specs.Base.{span};
 ghost use Rattle.words.specs.Instructions.{meant, operandOf};
 ghost use Rattle.words.specs.Disassembly.{meantLine};
-ghost use Rattle.lexeme.specs.Sorts.{lexeme, flatIdent, flatToken};
+ghost use Rattle.token.specs.Flat.{lexeme, flatIdent, flatToken};
 ghost use Rattle.lookup.specs.Told.{said};
 ghost use Rattle.lc3_answers.specs.Told.{reply, row, four, answered, counted, refusedAt, tokenTold, nextTold, statementsTold, listedTold, saidTold, RowIn, foundTold, operandTold, instrTold, lineTold};
 

@@ -1,4 +1,5 @@
 -- Laws of the lexer: each way from a token's first byte. Assumes nothing.
+pub mod Narrowness
 pub mod Told
 pub mod First
 pub mod LabelLaws

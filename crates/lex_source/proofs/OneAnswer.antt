@@ -5,9 +5,8 @@ use mathlib.Core.Bool.{Bool, false}
 use mathlib.Core.List.{List, map}
 use native.Mathlib.Omega.{arith}
 use lib.ListN.{getD}
-use Rattle.rules.specs.Base.{Outcome, ok, refused, Refusal, same}
+use Rattle.rules.specs.Base.{Outcome, ok, refused, Refusal, same, verdict}
 use Rattle.rules.specs.Tokens.{digit, letter, wordy, space, upper, value, Match, nextToken, lexed}
-use Rattle.rules.proofs.Walk.{verdict}
 use Rattle.text.specs.Runs.{inClass, from, runEnd}
 use Rattle.text.specs.Names.{ordered}
 use Rattle.text.specs.declared.Class.{Class}

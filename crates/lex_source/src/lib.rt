@@ -2,8 +2,8 @@
 ghost use mathlib.Core.Path.{_≡_};
 ghost use Prim.Native.Nat.{_≤_};
 ghost use lib.ListN.{length};
+ghost use Rattle.rules.specs.Base.{verdict};
 ghost use Rattle.rules.specs.Tokens.{lexed};
-ghost use Rattle.rules.proofs.Walk.{verdict};
 ghost use Rattle.lex_source.specs.Lexed.{meantLexed, unlessHigh};
 use text::Class;
 use token::Next;

@@ -195,22 +195,6 @@ fn rows_right(data: &[u8], at: usize, rows: usize, src: &[u8]) -> bool {
     true
 }
 
-// Writes a byte so many times.
-fn repeat(src: &mut [u8], at: usize, byte: u8, count: usize) -> usize {
-    let mut i = at;
-    let mut left = count;
-    while left > 0 {
-        if i < src.len() {
-            src[i] = byte;
-            i += 1;
-            left -= 1;
-        } else {
-            return i;
-        }
-    }
-    i
-}
-
 // Copies so many bytes of the data.
 fn copy(data: &[u8], from: usize, src: &mut [u8], at: usize, count: usize) -> usize {
     let mut i = at;
@@ -242,12 +226,6 @@ fn vector_right(data: &[u8], at: usize, rows: usize, src: &[u8]) -> bool {
     false
 }
 
-fn differs(number: u64) {
-    io::write_all(STDOUT_FILENO, b"differs: ");
-    io::print_decimal(STDOUT_FILENO, number);
-    io::write_all(STDOUT_FILENO, b"\n");
-}
-
 // How a vector begins: the lengths of its source's parts, and how many rows it has.
 struct Header {
     head: usize,
@@ -270,7 +248,7 @@ fn header_at(data: &[u8], at: usize) -> Header {
 // Writes a vector's source, whose parts begin at `at`, and answers its length.
 fn write_source(data: &[u8], at: usize, header: Header, src: &mut [u8]) -> usize {
     let one = copy(data, at, src, 0, header.head);
-    let two = repeat(src, one, header.byte, header.count);
+    let two = vectors::repeat(src, one, header.byte, header.count);
     copy(
         data,
         wrapping_add_usize(at, header.head),
@@ -296,7 +274,7 @@ fn replay(data: &[u8], at: usize, src: &mut [u8], number: u64) -> usize {
             return wrapping_add_usize(past_rows(answers, header.rows), 17);
         }
     }
-    differs(number);
+    vectors::differs(number);
     wrapping_add_usize(past_rows(answers, header.rows), 17)
 }
 

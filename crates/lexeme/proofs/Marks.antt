@@ -13,7 +13,7 @@ use Rattle.rules.specs.Statements.{isMark, asWord, tokenIs, stopAt}
 use Rattle.rules.proofs.Run.{inRun}
 use Rattle.rules.proofs.Ahead.{is-token, is-refused, stop-token}
 use Rattle.token.specs.Meant.{kindAt}
-use Rattle.lexeme.specs.declared.Lexeme.{Lexeme}
+use Rattle.token.specs.declared.Lexeme.{Lexeme}
 use Rattle.lexeme.specs.Sorts.{kindBy, Stands}
 
 alike : Bool → Bool → Bool

@@ -21,8 +21,10 @@ use Rattle.token.specs.Coded.{coded, codedAs}
 use Rattle.token.specs.declared.Token.the-variants as tok
 use Rattle.token.specs.declared.Next.{Next}
 use Rattle.token.specs.declared.Next.the-variants.{Took, End, Refused}
-use Rattle.lexeme.specs.declared.Lexeme.{Lexeme}
-use Rattle.lexeme.specs.Sorts.{lexeme, flatIdent, flatToken, flatNext, nameOf, kindBy, noRow, Stands}
+use Rattle.token.specs.declared.Lexeme.{Lexeme}
+use Rattle.token.specs.Flat.{lexeme, flatIdent, flatNext}
+use Rattle.token.proofs.MeantCoded.{meant-coded}
+use Rattle.lexeme.specs.Sorts.{nameOf, kindBy, noRow, Stands}
 
 -- the row of a word is the row of its code
 no-row : (k : ℕ) (w : List ℕ) (rs : List Row) → placeFrom k w rs ≡ Label → find w rs ≡ none
@@ -134,5 +136,5 @@ module _ (s : List ℕ) (i : ℕ) where
     known = omega arith;
   }
 
-  pub stands-flat : (x : Next) (t : Lexeme) → meant s x ≡ nextToken s i → x ≡ coded (nextToken s i) → t ≡ flatNext x → Stands s i t
-  stands-flat x t m c e = rw e (stands x c m)
+  pub stands-flat : (t : Lexeme) → t ≡ flatNext (coded (nextToken s i)) → Stands s i t
+  stands-flat t e = rw e (stands (coded (nextToken s i)) refl (meant-coded s i))

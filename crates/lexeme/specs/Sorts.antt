@@ -1,4 +1,4 @@
--- A token as four numbers, and what they mean in the rules. Assumes nothing.
+-- What a token as four numbers means in the rules. Assumes nothing.
 use Prim.Native.Nat.{ℕ, zero, suc, _+_, _-_, _≤_, _<_}
 use mathlib.Core.Bool.{Bool, true, false}
 use mathlib.Core.List.{List, [], _∷_, map}
@@ -16,32 +16,7 @@ use Rattle.token.specs.declared.Token.the-variants.{Unsigned, Signed, Reg, Dire
 use Rattle.token.specs.declared.Token.the-variants as tok
 use Rattle.token.specs.declared.Next.{Next}
 use Rattle.token.specs.declared.Next.the-variants.{Took, End, Refused}
-use Rattle.lexeme.specs.declared.Lexeme.{Lexeme}
-
-abbrev pub lexeme : (sort value start end : ℕ) → Lexeme
-lexeme k v a e = record { sort = k; value = v; start = a; end = e }
-
-abbrev pub flatIdent : Ident → (start end : ℕ) → Lexeme
-flatIdent (Reserved k) a e = lexeme 5 k a e
-flatIdent Label a e = lexeme 3 0 a e
-
-abbrev pub flatToken : Token → (start end : ℕ) → Lexeme
-flatToken (Unsigned n) a e = lexeme 0 n a e
-flatToken (Signed n) a e = lexeme 1 n a e
-flatToken (Reg n) a e = lexeme 2 n a e
-flatToken (tok.Ident i) a e = flatIdent i a e
-flatToken String a e = lexeme 4 0 a e
-flatToken Directive a e = lexeme 6 0 a e
-flatToken Colon a e = lexeme 7 0 a e
-flatToken Comma a e = lexeme 8 0 a e
-flatToken NewLine a e = lexeme 9 0 a e
-
-abbrev pub flatNext : Next → Lexeme
-flatNext (Took t a e) = flatToken t a e
-flatNext (End i) = lexeme 10 0 i i
-flatNext (Refused n a e) = lexeme 11 n a e
-
--- WHAT THE NUMBERS MEAN
+use Rattle.token.specs.declared.Lexeme.{Lexeme}
 
 -- the word or name at a lexeme's place, in upper case
 unfoldable pub nameOf : List ℕ → Lexeme → List ℕ

@@ -1,89 +1,84 @@
 -- Operands after operands: the code's reading is the rules'. Assumes nothing.
-use Prim.Native.Nat.{ℕ, zero, suc, _+_, _≤_, _<_}
-use mathlib.Core.Path.{_≡_, refl, sym, _∙_, ap}
+use Prim.Native.Nat.{ℕ, zero, suc, _+_, _*_, _≤_, _<_}
+use mathlib.Core.Path.{_≡_, refl, sym, _∙_, ap, subst}
+use mathlib.Core.Bool.{Bool, true, false}
 use mathlib.Core.List.{List, [], _∷_}
 use native.Mathlib.Decide.{decLt}
+use native.Mathlib.Numerals.{add-one}
 use native.Mathlib.Omega.{arith}
 use borrow.Author.Tests.{eq-eqb, ne-eqb}
 use lib.Dec.{eqb}
-use Rattle.rules.specs.Base.{if_then_else_, Outcome, ok, refused, refuse, require, _>>=_, span}
+use lib.ListN.{length, drop, drop-of-length-le}
+use Rattle.rules.specs.Base.{if_then_else_, Outcome, ok, refused, Refusal, refuse, require, _>>=_, span}
 use Rattle.rules.specs.Tokens.{Token, nextToken}
 use Rattle.rules.specs.Words.{Field}
 use Rattle.rules.specs.Statements.{Piece, bits, target, chars, operand, add, bare, commaAt, operandAt, moreFrom, operandsFrom}
 use Rattle.rules.specs.Statements as rules
-use Rattle.lexeme.specs.declared.Lexeme.{Lexeme}
+use Rattle.token.specs.declared.Lexeme.{Lexeme}
 use Rattle.lexeme.specs.Sorts.{Stands}
 use Rattle.lexeme.proofs.Marks.{comma-sort}
 use Rattle.operands.specs.declared.Field as code
 use Rattle.operands.specs.declared.Given.{Given}
 use Rattle.operands.specs.declared.Step.{Step}
 use Rattle.operands.specs.declared.Step.the-variants.{Took, Refused}
-use Rattle.operands.specs.Coded.{fieldOf, given, addTo, told, operandGiven, operandStep, misplacedAt, Below, Adds}
+use Rattle.operands.specs.Coded.{fieldOf, given, addTo, told, operandGiven, operandStep, Below, Adds}
 use Rattle.statement_rows.specs.Rows.{fieldsBy}
-use Rattle.lines.specs.Lines.{moreGiven, moreStep, thenStep, Follows, codedGiven, codedStep, lineStep}
+use Rattle.lines.specs.declared.Due.{Due}
+use Rattle.lines.specs.declared.Due.the-variants.{At}
+use Rattle.lines.specs.declared.Due.the-variants as due
+use Rattle.lines.specs.Lines.{fieldIn, dueAt, codedDue, nextStep, codedGiven, codedStep, lineStep}
 
--- A COMMA
-module _ (s : List ℕ) (t : Lexeme) (g : Given) (f : Field) (other : ℕ) (r : Step) (h : Stands s (g .stop) t) where
-  comma-token : t .sort < 11 → commaAt s (g .stop) ≡ (require (eqb (t .sort) 8) 13 (span (t .start) (t .end)) >>= λ x. ok (t .end))
-  unfolding commaAt
-  comma-token l = rw (h .token l, commaAt, comma-sort s t (t .sort) l)
+-- WHERE AN OPERAND IS DUE
+module _ (s : List ℕ) (k i : ℕ) where
+  pub due-first : k ≡ 0 → At i ≡ codedDue (dueAt s k i)
+  unfolding dueAt codedDue if_then_else_
+  due-first e = rw (eq-eqb k 0 e)
 
-  pub comma-yes : t .sort ≡ 8 → Adds g r (operandStep s f other g (t .end)) → Adds g r (moreStep s f other g)
-  unfolding moreStep moreGiven operandStep
-  comma-yes e a =
-      let q : commaAt s (g .stop) ≡ ok (t .end) = comma-token (omega arith) ∙ rw (eq-eqb (t .sort) 8 e) in
-      rw (q, moreGiven) a
+  module _ (n : k ≡ 0 → ⊥) where
+    due-comma : dueAt s k i ≡ commaAt s i
+    unfolding dueAt if_then_else_
+    due-comma = rw (ne-eqb k 0 n)
 
-  pub comma-no : (t .sort ≡ 8 → ⊥) → r ≡ misplacedAt t 13 → Adds g r (moreStep s f other g)
-  unfolding moreStep moreGiven misplacedAt if_then_else_ told Below commaAt
-  comma-no n e = go (decLt (t .sort) 11)
+    module _ (t : Lexeme) (h : Stands s i t) where
+      comma-token : t .sort < 11 → commaAt s i ≡ (require (eqb (t .sort) 8) 13 (span (t .start) (t .end)) >>= λ x. ok (t .end))
+      unfolding commaAt
+      comma-token l = rw (h .token l, commaAt, comma-sort s t (t .sort) l)
+
+      pub due-behind : t .sort ≡ 8 → At (t .end) ≡ codedDue (dueAt s k i)
+      unfolding codedDue
+      due-behind e =
+          let q : commaAt s i ≡ ok (t .end) = comma-token (omega arith) ∙ rw (eq-eqb (t .sort) 8 e) in
+          sym (ap codedDue (due-comma ∙ q))
+
+      pub due-bad : t .sort ≡ 11 → due.Refused (t .value) (t .start) (t .end) ≡ codedDue (dueAt s k i)
+      unfolding codedDue commaAt
+      due-bad e =
+          let q : commaAt s i ≡ refuse (t .value) (span (t .start) (t .end)) = rw (h .bad (omega arith), commaAt) in
+          sym (ap codedDue (due-comma ∙ q))
+
+      pub due-other : (t .sort ≡ 8 → ⊥) → (t .sort ≡ 11 → ⊥) → due.Refused 13 (t .start) (t .end) ≡ codedDue (dueAt s k i)
+      unfolding codedDue
+      due-other p q =
+          let l : t .sort < 11 = omega (arith, h .known) in
+          let y : commaAt s i ≡ refuse 13 (span (t .start) (t .end)) = comma-token l ∙ rw (ne-eqb (t .sort) 8 p) in
+          sym (ap codedDue (due-comma ∙ y))
+
+module _ (s : List ℕ) (k : ℕ) (g : Given) (f : Field) (other : ℕ) (r : Step) where
+  pub next-at : (d : Due) → d ≡ codedDue (dueAt s k (g .stop)) → (i : ℕ) → d ≡ At i → Adds g r (operandStep s f other g i) → Adds g r (nextStep s k f other g)
+  unfolding nextStep operandStep codedDue
+  next-at d e i q a = go (dueAt s k (g .stop)) (sym q ∙ e)
     where
-      go : Dec (t .sort < 11) → Adds g r (moreStep s f other g)
-      go (yes l) =
-          let q : commaAt s (g .stop) ≡ refuse 13 (span (t .start) (t .end)) = comma-token l ∙ rw (ne-eqb (t .sort) 8 n) in
-          rw (e, ne-eqb (t .sort) 11 (λ (z : t .sort ≡ 11). omega arith), q, moreGiven) (record { is = refl; room = tt })
-      go (no l) =
-          let z : t .sort ≡ 11 = omega (arith, h .known) in
-          let q : commaAt s (g .stop) ≡ refuse (t .value) (span (t .start) (t .end)) = rw (h .bad (omega arith), commaAt) in
-          rw (e, eq-eqb (t .sort) 11 z, q, moreGiven) (record { is = refl; room = tt })
+      go : (o : Outcome ℕ) → At i ≡ codedDue o → Adds g r (told (o >>= λ j. operandGiven s f other g j))
+      go (ok j) p = let z : i ≡ j = cc in rw (← z) a
+      go (refused x) p = let z : _≡_ {A = ℕ} 0 1 = cc in absurd (omega arith)
 
--- AFTER A STEP
-module _ (s : List ℕ) (f : Field) (other : ℕ) (step r : Step) where
-  pub then-took : (g : Given) → step ≡ Took g → Adds g r (moreStep s f other g) → Follows s f other step r
-  unfolding thenStep Below
-  then-took g e a = record { is = a .is ∙ rw e; room = λ n b. more n (rw e at b) r (a .room) }
+  pub next-refused : (d : Due) → d ≡ codedDue (dueAt s k (g .stop)) → (n a e : ℕ) → d ≡ due.Refused n a e → r ≡ Refused n a e → Adds g r (nextStep s k f other g)
+  unfolding nextStep codedDue told Below
+  next-refused d c n a e q h = go (dueAt s k (g .stop)) (sym q ∙ c)
     where
-      more : (n : ℕ) → g .bits ≤ n → (r : Step) → Below (g .bits + 33554432) r → Below (n + 33554432) r
-      more n l (Took h) b = omega arith
-      more n l (Refused k a e) b = tt
-
-  pub then-refused : (n a e : ℕ) → step ≡ Refused n a e → r ≡ Refused n a e → Follows s f other step r
-  unfolding thenStep Below
-  then-refused n a e p q = rw (p, q) (record { is = refl; room = λ k b. tt })
-
--- ROOM FOR THE WORD'S BITS
-below-more : (n m : ℕ) (r : Step) → n ≤ m → Below n r → Below m r
-unfolding Below
-below-more n m (Took g) l b = omega arith
-below-more n m (Refused k a e) l b = tt
-
-pub took-room : (step : Step) (g : Given) → step ≡ Took g → Below 268435456 step → g .bits ≤ 268435456
-unfolding Below
-took-room step g e b = rw e at b
-
-module _ (w i : ℕ) (g : Given) (e : g ≡ given w 0 0 0 0 0 i) (l : w < 65536) where
-  bits-are : g .bits ≡ w
-  bits-are = ap (λ (x : Given). x .bits) e
-
-  pub bare-room : g .bits ≤ 268435456
-  bare-room = omega (arith, bits-are)
-
-  module _ (first x : Step) (a : Adds g first x) where
-    pub first-room : Below 268435456 first
-    first-room = below-more (g .bits + 33554432) 268435456 first (omega (arith, bits-are)) (a .room)
-
-    pub second-room : (s : List ℕ) (f : Field) (other : ℕ) (second : Step) → Follows s f other first second → Below 268435456 second
-    second-room s f other second b = below-more (g .bits + 33554432 + 33554432) 268435456 second (omega (arith, bits-are)) (b .room (g .bits + 33554432) (a .room))
+      go : (o : Outcome ℕ) → due.Refused n a e ≡ codedDue o → Adds g r (told (o >>= λ j. operandGiven s f other g j))
+      go (ok j) p = let z : _≡_ {A = ℕ} 0 1 = cc in absurd (omega arith)
+      go (refused x) p = rw h (record { is = cc; room = tt })
 
 -- WHAT THE RULES GIVE
 add-coded : (g : rules.Given) (p : Piece) (i : ℕ) → addTo (codedGiven g) p i ≡ codedGiven (add g p i)
@@ -105,74 +100,140 @@ module _ (s : List ℕ) (f : Field) (other : ℕ) where
       by-token (ok t) = by-piece (operand f other t) (t .place .stop)
       by-token (refused r) = refl
 
-  abbrev next : rules.Given → Outcome rules.Given
-  next g = commaAt s (g .stop) >>= λ j. operandAt s f other g j
-
-  then-coded : (o : Outcome rules.Given) → thenStep s f other (codedStep o) ≡ codedStep (o >>= next)
-  unfolding thenStep codedStep moreStep moreGiven told operandStep codedGiven
-  then-coded (refused r) = refl
-  then-coded (ok g) = by-comma (commaAt s (g .stop))
+  next-coded : (k : ℕ) (g : rules.Given) → nextStep s k f other (codedGiven g) ≡ codedStep (dueAt s k (g .stop) >>= λ j. operandAt s f other g j)
+  unfolding nextStep codedStep told operandStep codedGiven
+  next-coded k g = by-place (dueAt s k (g .stop))
     where
-      by-comma : (o : Outcome ℕ) → told (o >>= λ j. operandGiven s f other (codedGiven g) j) ≡ codedStep (o >>= λ j. operandAt s f other g j)
-      by-comma (ok j) = operand-coded g j
-      by-comma (refused r) = refl
+      by-place : (o : Outcome ℕ) → told (o >>= λ j. operandGiven s f other (codedGiven g) j) ≡ codedStep (o >>= λ j. operandAt s f other g j)
+      by-place (ok j) = operand-coded g j
+      by-place (refused r) = refl
 
-bind-ok : (o : Outcome rules.Given) → (o >>= ok) ≡ o
-bind-ok (ok g) = refl
-bind-ok (refused r) = refl
-
+-- WHAT IS LEFT TO READ
 module _ (s : List ℕ) (other : ℕ) where
-  more-one : (f : Field) (o : Outcome rules.Given) → (o >>= moreFrom s (f ∷ []) other) ≡ (o >>= next s f other)
-  unfolding moreFrom
-  more-one f (refused r) = refl
-  more-one f (ok g) = by-comma (commaAt s (g .stop))
+  -- operand k and those after it
+  unfoldable pub restFrom : ℕ → List Field → rules.Given → Outcome rules.Given
+  restFrom k [] g = ok g
+  restFrom k (f ∷ fs) g = (dueAt s k (g .stop) >>= λ j. operandAt s f other g j) >>= moreFrom s fs other
+
+  all-left : (fs : List Field) (g : rules.Given) → operandsFrom s fs other g ≡ restFrom 0 fs g
+  unfolding operandsFrom restFrom dueAt if_then_else_
+  all-left [] g = refl
+  all-left (f ∷ fs) g = refl
+
+  more-left : (k : ℕ) (fs : List Field) (g : rules.Given) → moreFrom s fs other g ≡ restFrom (suc k) fs g
+  unfolding moreFrom restFrom
+  more-left k [] g = refl
+  more-left k (f ∷ fs) g = by-comma (commaAt s (g .stop)) ∙ ap (λ (o : Outcome ℕ). (o >>= λ j. operandAt s f other g j) >>= moreFrom s fs other) (sym (due-comma s (suc k) (g .stop) (λ e. omega arith)))
     where
-      by-comma : (o : Outcome ℕ) → (o >>= λ j. operandAt s f other g j >>= ok) ≡ (o >>= λ j. operandAt s f other g j)
-      by-comma (ok j) = bind-ok (operandAt s f other g j)
+      by-comma : (o : Outcome ℕ) → (o >>= λ j. operandAt s f other g j >>= moreFrom s fs other) ≡ ((o >>= λ j. operandAt s f other g j) >>= moreFrom s fs other)
+      by-comma (ok j) = refl
       by-comma (refused r) = refl
 
-  more-two : (f h : Field) (o : Outcome rules.Given) → (o >>= moreFrom s (f ∷ h ∷ []) other) ≡ ((o >>= next s f other) >>= next s h other)
-  unfolding moreFrom
-  more-two f h (refused r) = refl
-  more-two f h (ok g) = by-comma (commaAt s (g .stop))
-    where
-      by-comma : (o : Outcome ℕ) → (o >>= λ j. operandAt s f other g j >>= moreFrom s (h ∷ []) other) ≡ ((o >>= λ j. operandAt s f other g j) >>= next s h other)
-      by-comma (ok j) = more-one h (operandAt s f other g j)
-      by-comma (refused r) = refl
+  -- operands 0 to k - 1 of a row are read, and give g
+  pub record Midway (fs : List Field) (w at k : ℕ) (g : Given) : Type 0 where
+    pub done : rules.Given
+    pub is : g ≡ codedGiven done
+    pub left : operandsFrom s fs other (bare w at) ≡ restFrom k (drop k fs) done
+    pub room : g .bits ≤ 65535 + k * 33554432
 
--- A LINE BY THE COUNT OF ITS OPERANDS
-module _ (s : List ℕ) (other w i : ℕ) (g : Given) (e : g ≡ given w 0 0 0 0 0 i) (a b c : code.Field) (k : ℕ) where
-  coded-bare : g ≡ codedGiven (bare w i)
-  unfolding codedGiven
-  coded-bare = e
+  module _ (fs : List Field) (w at : ℕ) where
+    pub mid-start : w < 65536 → (g : Given) → g ≡ given w 0 0 0 0 0 at → Midway fs w at 0 g
+    unfolding codedGiven
+    mid-start l g e = record {
+      done = bare w at;
+      is = e;
+      left = all-left fs (bare w at);
+      room = rw e (omega arith);
+    }
 
-  pub line-none : k ≡ 0 → Took g ≡ lineStep s (fieldsBy k a b c) other w i
-  unfolding lineStep operandsFrom codedStep
-  line-none z = rw z (ap Took coded-bare)
+    pub mid-end : (k : ℕ) (g : Given) → Midway fs w at k g → length fs ≤ k → Took g ≡ lineStep s fs other w at
+    unfolding lineStep codedStep restFrom
+    mid-end k g m l =
+        let q : operandsFrom s fs other (bare w at) ≡ ok (m .done) = rw (drop-of-length-le fs l) at (m .left) in
+        rw (q, m .is)
 
-  module _ (first : Step) (p : Adds g first (operandStep s (fieldOf a) other g i)) where
-    first-coded : first ≡ codedStep (operandAt s (fieldOf a) other (bare w i) i)
-    first-coded = p .is ∙ (rw coded-bare (operand-coded s (fieldOf a) other (bare w i) i))
+    module _ (k : ℕ) (g : Given) (m : Midway fs w at k g) (f : Field) (gs : List Field) (e : drop k fs ≡ f ∷ gs) where
+      abbrev here : Outcome rules.Given
+      here = dueAt s k (m .done .stop) >>= λ j. operandAt s f other (m .done) j
 
-    pub line-one : k ≡ 1 → first ≡ lineStep s (fieldsBy k a b c) other w i
-    unfolding lineStep operandsFrom moreFrom
-    line-one z = rw z (first-coded ∙ ap codedStep (sym (bind-ok (operandAt s (fieldOf a) other (bare w i) i))))
+      here-left : operandsFrom s fs other (bare w at) ≡ (here >>= moreFrom s gs other)
+      unfolding restFrom
+      here-left = m .left ∙ ap (λ (l : List Field). restFrom k l (m .done)) e
 
-    module _ (second : Step) (q : Follows s (fieldOf b) other first second) where
-      second-coded : second ≡ codedStep (operandAt s (fieldOf a) other (bare w i) i >>= next s (fieldOf b) other)
-      second-coded = q .is ∙ (ap (thenStep s (fieldOf b) other) first-coded ∙ then-coded s (fieldOf b) other (operandAt s (fieldOf a) other (bare w i) i))
+      here-step : nextStep s k f other g ≡ codedStep here
+      here-step = ap (nextStep s k f other) (m .is) ∙ next-coded s f other k (m .done)
 
-      pub line-two : k ≡ 2 → second ≡ lineStep s (fieldsBy k a b c) other w i
-      unfolding lineStep operandsFrom
-      line-two z = rw z (second-coded ∙ ap codedStep (sym (more-one s other (fieldOf b) (operandAt s (fieldOf a) other (bare w i) i))))
-
-      pub line-three : (third : Step) → Follows s (fieldOf c) other second third → (k ≡ 0 → ⊥) → (k ≡ 1 → ⊥) → (k ≡ 2 → ⊥) → third ≡ lineStep s (fieldsBy k a b c) other w i
-      unfolding lineStep operandsFrom
-      line-three third r x y z = go k x y z
+      pub mid-refused : (r : Step) (n a z : ℕ) → Adds g r (nextStep s k f other g) → r ≡ Refused n a z → r ≡ lineStep s fs other w at
+      unfolding lineStep codedStep
+      mid-refused r n a z d q = go here refl (sym q ∙ d .is ∙ here-step)
         where
-          go : (k : ℕ) → (k ≡ 0 → ⊥) → (k ≡ 1 → ⊥) → (k ≡ 2 → ⊥) → third ≡ codedStep (operandsFrom s (fieldsBy k a b c) other (bare w i))
-          go zero x y z = absurd (x refl)
-          go (suc zero) x y z = absurd (y refl)
-          go (suc (suc zero)) x y z = absurd (z refl)
-          go (suc (suc (suc k))) x y z =
-              r .is ∙ (ap (thenStep s (fieldOf c) other) second-coded ∙ (then-coded s (fieldOf c) other (operandAt s (fieldOf a) other (bare w i) i >>= next s (fieldOf b) other) ∙ ap codedStep (sym (more-two s other (fieldOf b) (fieldOf c) (operandAt s (fieldOf a) other (bare w i) i)))))
+          go : (o : Outcome rules.Given) → here ≡ o → Refused n a z ≡ codedStep o → r ≡ codedStep (operandsFrom s fs other (bare w at))
+          go (ok h) p c = let y : _≡_ {A = ℕ} 0 1 = cc in absurd (omega arith)
+          go (refused x) p c = q ∙ c ∙ sym (ap codedStep (here-left ∙ ap (λ (o : Outcome rules.Given). o >>= moreFrom s gs other) p))
+
+      pub mid-on : drop (k + 1) fs ≡ gs → (r : Step) (h : Given) → Adds g r (nextStep s k f other g) → r ≡ Took h → Midway fs w at (k + 1) h
+      unfolding codedStep Below
+      mid-on b r h d q = go here refl (sym q ∙ d .is ∙ here-step)
+        where
+          go : (o : Outcome rules.Given) → here ≡ o → Took h ≡ codedStep o → Midway fs w at (k + 1) h
+          go (refused x) p c = let y : _≡_ {A = ℕ} 0 1 = cc in absurd (omega arith)
+          go (ok x) p c =
+              let y : h ≡ codedGiven x = cc in
+              let z : h .bits ≤ g .bits + 33554432 = rw q at (d .room) in
+              record {
+                done = x;
+                is = y;
+                left = here-left ∙ ap (λ (o : Outcome rules.Given). o >>= moreFrom s gs other) p ∙ more-left k gs x ∙ rw (b, add-one);
+                room = omega (arith, m .room);
+              }
+
+-- A ROW'S FIELDS
+module _ (a b c : code.Field) where
+  pub few-fields : (n : ℕ) → n < 3 → n ≡ length (fieldsBy n a b c)
+  few-fields zero l = refl
+  few-fields (suc zero) l = refl
+  few-fields (suc (suc zero)) l = refl
+  few-fields (suc (suc (suc n))) l = absurd (omega arith)
+
+  pub three-fields : (n : ℕ) → 3 ≤ n → 3 ≡ length (fieldsBy n a b c)
+  three-fields zero l = absurd (omega arith)
+  three-fields (suc zero) l = absurd (omega arith)
+  three-fields (suc (suc zero)) l = absurd (omega arith)
+  three-fields (suc (suc (suc n))) l = refl
+
+  pub third-field : (k : ℕ) → (k ≡ 0 → ⊥) → (k ≡ 1 → ⊥) → c ≡ fieldIn k a b c
+  third-field zero p q = absurd (p refl)
+  third-field (suc zero) p q = absurd (q refl)
+  third-field (suc (suc k)) p q = refl
+
+  pub field-is : (k : ℕ) → k < 3 → (n : ℕ) → k < length (fieldsBy n a b c) → drop k (fieldsBy n a b c) ≡ fieldOf (fieldIn k a b c) ∷ drop (k + 1) (fieldsBy n a b c)
+  field-is zero j zero l = absurd (omega arith)
+  field-is (suc k) j zero l = absurd (omega arith)
+  field-is zero j (suc zero) l = refl
+  field-is (suc k) j (suc zero) l = absurd (omega arith)
+  field-is zero j (suc (suc zero)) l = refl
+  field-is (suc zero) j (suc (suc zero)) l = refl
+  field-is (suc (suc k)) j (suc (suc zero)) l = absurd (omega arith)
+  field-is zero j (suc (suc (suc n))) l = refl
+  field-is (suc zero) j (suc (suc (suc n))) l = refl
+  field-is (suc (suc zero)) j (suc (suc (suc n))) l = refl
+  field-is (suc (suc (suc k))) j (suc (suc (suc n))) l = absurd (omega arith)
+
+-- A ROW'S OPERANDS
+module _ (s : List ℕ) (other w at n : ℕ) (a b c : code.Field) (count k : ℕ) (g : Given) (m : Midway s other (fieldsBy n a b c) w at k g) (size : count ≡ length (fieldsBy n a b c)) where
+  pub row-end : count ≤ k → Took g ≡ lineStep s (fieldsBy n a b c) other w at
+  row-end l = mid-end s other (fieldsBy n a b c) w at k g m (omega arith)
+
+  module _ (most : count ≤ 3) (l : k < count) where
+    pub row-room : g .bits ≤ 268435456
+    row-room = omega (arith, m .room)
+
+    module _ (x : code.Field) (e : x ≡ fieldIn k a b c) where
+      field-here : drop k (fieldsBy n a b c) ≡ fieldOf x ∷ drop (k + 1) (fieldsBy n a b c)
+      field-here = rw e (field-is a b c k (omega arith) n (omega arith))
+
+      pub row-refused : (r : Step) (i j z : ℕ) → Adds g r (nextStep s k (fieldOf x) other g) → r ≡ Refused i j z → r ≡ lineStep s (fieldsBy n a b c) other w at
+      row-refused r i j z d q = mid-refused s other (fieldsBy n a b c) w at k g m (fieldOf x) (drop (k + 1) (fieldsBy n a b c)) field-here r i j z d q
+
+      pub row-on : (r : Step) (h : Given) → Adds g r (nextStep s k (fieldOf x) other g) → r ≡ Took h → Midway s other (fieldsBy n a b c) w at (k + 1) h
+      row-on r h d q = mid-on s other (fieldsBy n a b c) w at k g m (fieldOf x) (drop (k + 1) (fieldsBy n a b c)) field-here refl r h d q

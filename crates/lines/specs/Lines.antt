@@ -1,34 +1,38 @@
 -- A statement's operands as the code has them. Assumes nothing.
-use Prim.Native.Nat.{ℕ, _+_}
+use Prim.Native.Nat.{ℕ, zero, suc}
 use mathlib.Core.List.{List}
 use mathlib.Core.Option.{Option, none, some}
-use mathlib.Core.Path.{_≡_}
-use Rattle.rules.specs.Base.{Outcome, ok, refused, _>>=_}
+use lib.Dec.{eqb}
+use Rattle.rules.specs.Base.{if_then_else_, Outcome, ok, refused, _>>=_}
 use Rattle.rules.specs.Words.{Field}
 use Rattle.rules.specs.Statements.{Target, bare, commaAt, operandsFrom}
 use Rattle.rules.specs.Statements as rules
 use Rattle.operands.specs.declared.Given.{Given}
 use Rattle.operands.specs.declared.Step.{Step}
 use Rattle.operands.specs.declared.Step.the-variants.{Took, Refused}
-use Rattle.operands.specs.Coded.{given, told, operandGiven, Below}
+use Rattle.operands.specs.Coded.{given, told, operandGiven}
+use Rattle.operands.specs.declared.Field as code
+use Rattle.lines.specs.declared.Due.{Due}
+use Rattle.lines.specs.declared.Due.the-variants.{At}
+use Rattle.lines.specs.declared.Due.the-variants as due
 
--- a comma and an operand
-unfoldable pub moreGiven : List ℕ → Field → ℕ → Given → Outcome Given
-moreGiven s f other g = do
-  j ← commaAt s (g .stop)
-  operandGiven s f other g j
+-- the field of operand k
+abbrev pub fieldIn : ℕ → (a b c : code.Field) → code.Field
+fieldIn zero a b c = a
+fieldIn (suc zero) a b c = b
+fieldIn (suc (suc k)) a b c = c
 
-unfoldable pub moreStep : List ℕ → Field → ℕ → Given → Step
-moreStep s f other g = told (moreGiven s f other g)
+-- where operand k is due, behind operands that end at i
+unfoldable pub dueAt : List ℕ → (k i : ℕ) → Outcome ℕ
+dueAt s k i = if eqb k 0 then ok i else commaAt s i
 
--- the same after operands that may have been refused
-unfoldable pub thenStep : List ℕ → Field → ℕ → Step → Step
-thenStep s f other (Took g) = moreStep s f other g
-thenStep s f other (Refused n a e) = Refused n a e
+unfoldable pub codedDue : Outcome ℕ → Due
+codedDue (ok i) = At i
+codedDue (refused r) = due.Refused (r .number) (r .first .start) (r .first .stop)
 
-pub record Follows (s : List ℕ) (f : Field) (other : ℕ) (before after : Step) : Type 0 where
-  pub is : after ≡ thenStep s f other before
-  pub room : (n : ℕ) → Below n before → Below (n + 33554432) after
+-- operand k, behind what is given
+unfoldable pub nextStep : List ℕ → ℕ → Field → ℕ → Given → Step
+nextStep s k f other g = told (dueAt s k (g .stop) >>= λ j. operandGiven s f other g j)
 
 -- WHAT THE RULES GIVE, AS THE CODE TELLS IT
 

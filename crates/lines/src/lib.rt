@@ -5,31 +5,57 @@ use operands::Given;
 use operands::Step;
 use statement_rows::Row;
 ghost use mathlib.Core.Path.{_≡_};
-ghost use Prim.Native.Nat.{_≤_};
-ghost use Rattle.operands.specs.Coded.{fieldOf, Adds, Below, given};
+ghost use Prim.Native.Nat.{_≤_, _<_};
+ghost use lib.ListN.{length};
+ghost use Rattle.operands.specs.Coded.{fieldOf, Adds, given};
 ghost use Rattle.statement_rows.specs.Rows.{fieldsBy};
-ghost use Rattle.lines.specs.Lines.{moreStep, Follows, lineStep};
+ghost use Rattle.lines.specs.Lines.{codedDue, dueAt, nextStep, fieldIn, lineStep};
 
-// A comma and an operand.
-fn more(src: &[u8], g: Given, field: Field, other: u16) -> Step
-    requires { ⌜ g .bits ≤ 268435456 ⌝ }
-    ensures { λ r. ⌜ Adds g r (moreStep (now (src .entry)) (fieldOf field) other g) ⌝ }
-{
-    let t = next_lexeme(src, g.stop);
-    if t.sort == 8 {
-        return operands::operand_at(src, t.end, g, field, other);
-    }
-    operands::misplaced(t, 13)
+// The place where an operand is due, or the refusal of what stands there instead of its comma.
+pub enum Due {
+    At(usize),
+    Refused {
+        number: u16,
+        start: usize,
+        end: usize,
+    },
 }
 
-// The same where operands before it may have been refused.
-fn then_more(src: &[u8], step: Step, field: Field, other: u16) -> Step
-    requires { ⌜ Below 268435456 step ⌝ }
-    ensures { λ r. ⌜ Follows (now (src .entry)) (fieldOf field) other step r ⌝ }
+// Where operand k is due, behind operands that end at a place: the first stands there, any other behind a comma.
+fn operand_place(src: &[u8], k: u16, stop: usize) -> Due
+    ensures { λ r. ⌜ r ≡ codedDue (dueAt (now (src .entry)) k stop) ⌝ }
 {
-    match step {
-        Step::Took(g) => more(src, g, field, other),
-        Step::Refused { number, start, end } => Step::Refused { number, start, end },
+    if k == 0 {
+        return Due::At(stop);
+    }
+    let t = next_lexeme(src, stop);
+    if t.sort == 8 {
+        return Due::At(t.end);
+    }
+    let start = t.start;
+    let end = t.end;
+    if t.sort == 11 {
+        return Due::Refused {
+            number: t.value,
+            start,
+            end,
+        };
+    }
+    Due::Refused {
+        number: 13,
+        start,
+        end,
+    }
+}
+
+// Operand k, behind what is given.
+fn next_operand(src: &[u8], k: u16, g: Given, field: Field, other: u16) -> Step
+    requires { ⌜ g .bits ≤ 268435456 ⌝ }
+    ensures { λ r. ⌜ Adds g r (nextStep (now (src .entry)) k (fieldOf field) other g) ⌝ }
+{
+    match operand_place(src, k, g.stop) {
+        Due::At(place) => operands::operand_at(src, place, g, field, other),
+        Due::Refused { number, start, end } => Step::Refused { number, start, end },
     }
 }
 
@@ -48,24 +74,54 @@ fn bare(base: u16, stop: usize) -> Given
     }
 }
 
+// How many operands a row has: at most three.
+fn operand_count(row: Row) -> u16
+    ensures { λ r. ⌜ (r ≡ length (fieldsBy (row .count) (row .first) (row .second) (row .third))) × (r ≤ 3) ⌝ }
+{
+    if row.count < 3 {
+        return row.count;
+    }
+    3
+}
+
+// The field of operand k.
+fn field_at(row: Row, k: u16) -> Field
+    ensures { λ r. ⌜ r ≡ fieldIn k (row .first) (row .second) (row .third) ⌝ }
+{
+    let first = row.first;
+    let second = row.second;
+    let third = row.third;
+    if k == 0 {
+        return first;
+    }
+    if k == 1 {
+        return second;
+    }
+    third
+}
+
 // The operands of a row from a place on. `other` is the refusal of a token that is no operand of its field.
 pub fn operands_from(src: &[u8], at: usize, row: Row, other: u16) -> Step
     ensures { λ r. ⌜ r ≡ lineStep (now (src .entry)) (fieldsBy (row .count) (row .first) (row .second) (row .third)) other (row .base) at ⌝ }
 {
-    let g = bare(row.base, at);
-    if row.count == 0 {
-        return Step::Took(g);
+    let count = operand_count(row);
+    let mut g = bare(row.base, at);
+    let mut k = 0;
+    while k < count {
+        let step = next_operand(src, k, g, field_at(row, k), other);
+        match step {
+            Step::Took(next) => {
+                g = next;
+                k += 1;
+            }
+            Step::Refused {
+                number: _,
+                start: _,
+                end: _,
+            } => {
+                return step;
+            }
+        }
     }
-    let field = row.first;
-    let first = operands::operand_at(src, at, g, field, other);
-    if row.count == 1 {
-        return first;
-    }
-    let field = row.second;
-    let second = then_more(src, first, field, other);
-    if row.count == 2 {
-        return second;
-    }
-    let field = row.third;
-    then_more(src, second, field, other)
+    Step::Took(g)
 }

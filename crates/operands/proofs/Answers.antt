@@ -13,7 +13,7 @@ use Rattle.rules.specs.Base.{if_then_else_, ok, span}
 use Rattle.rules.specs.Tokens.{plus, minus, tokenIn, number, register, word, text}
 use Rattle.rules.specs.Words.{find, instructions}
 use Rattle.rules.specs.Statements.{bits, target, chars, inRange, reduced, named, operand}
-use Rattle.lexeme.specs.declared.Lexeme.{Lexeme}
+use Rattle.token.specs.declared.Lexeme.{Lexeme}
 use Rattle.operands.specs.declared.Field.{Field}
 use Rattle.operands.specs.declared.Range.{Range}
 use Rattle.operands.specs.declared.Given.{Given}

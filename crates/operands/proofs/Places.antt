@@ -13,7 +13,7 @@ use Rattle.rules.specs.Words.{find, instructions}
 use Rattle.rules.specs.Words as words
 use Rattle.rules.specs.Statements.{asNumber, asRegister, asWord, asText, asLabel, need, operand}
 use Rattle.token.specs.Meant.{kindAt}
-use Rattle.lexeme.specs.declared.Lexeme.{Lexeme}
+use Rattle.token.specs.declared.Lexeme.{Lexeme}
 use Rattle.lexeme.specs.Sorts.{nameOf, kindBy, noRow, Stands}
 use Rattle.operands.specs.declared.Field.{Field}
 use Rattle.operands.specs.declared.Given.{Given}

@@ -2,7 +2,7 @@
 use Prim.Native.Nat.{ℕ}
 use mathlib.Core.Path.{_≡_, sym, _∙_}
 use mathlib.Core.List.{List}
-use Rattle.lexeme.specs.declared.Lexeme.{Lexeme}
+use Rattle.token.specs.declared.Lexeme.{Lexeme}
 use Rattle.operands.specs.declared.Field.{Field}
 use Rattle.operands.specs.declared.Given.{Given}
 use Rattle.operands.specs.declared.Step.{Step}

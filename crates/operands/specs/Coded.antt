@@ -9,7 +9,7 @@ use Rattle.rules.specs.Tokens.{Num, plus, minus, nextToken}
 use Rattle.rules.specs.Words.{reg, regOrImm, num, near, name, string, signed, unsigned, anyWord}
 use Rattle.rules.specs.Words as words
 use Rattle.rules.specs.Statements.{Piece, bits, target, chars, operand}
-use Rattle.lexeme.specs.declared.Lexeme.{Lexeme}
+use Rattle.token.specs.declared.Lexeme.{Lexeme}
 use Rattle.operands.specs.declared.Field.{Field}
 use Rattle.operands.specs.declared.Field.the-variants.{Dr, Sr, RegOrImm, Offset6, Near9, Near11, Trap, Word, Fill, Name, Text}
 use Rattle.operands.specs.declared.Range.{Range}

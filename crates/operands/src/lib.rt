@@ -1,6 +1,6 @@
 // Operands one after another: what a line's operands give together, read from the source.
-use lexeme::Lexeme;
 use lexeme::next_lexeme;
+use token::Lexeme;
 ghost use mathlib.Core.Path.{_≡_};
 ghost use mathlib.Core.List.{List};
 ghost use mathlib.Core.Option.{none};

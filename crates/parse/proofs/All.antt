@@ -1,17 +1,21 @@
 -- Statements one after another, as the loop over them goes. Assumes nothing.
-use Prim.Native.Nat.{ℕ, _-_, _≤_, _<_}
+use Prim.Native.Nat.{ℕ, _+_, _-_, _≤_, _<_}
 use mathlib.Core.Path.{_≡_, refl, sym, _∙_, ap}
 use mathlib.Core.List.{List, _∷_}
 use mathlib.Core.Option.{Option, none, some}
 use native.Mathlib.Omega.{arith}
 use lib.ListN.{length}
-use Rattle.rules.specs.Base.{Outcome, ok, refused, Refusal, refuse, _>>=_, span, nowhere}
+use Rattle.rules.specs.Base.{Outcome, ok, refused, Refusal, refuse, _>>=_, span, nowhere, verdict}
 use Rattle.rules.specs.Statements.{Stmt, Read, nextStatement, statementsAt, statements}
 use Rattle.rules.specs.Tokens.{Token, lexed}
-use Rattle.rules.proofs.Walk.{verdict}
+use Rattle.rules.proofs.Walk.{whole-long}
 use Rattle.lex_source.specs.declared.Lexed.{Lexed}
 use Rattle.lex_source.specs.declared.Lexed.the-variants.{Clean, Fault}
-use Rattle.lex_source.specs.Lexed.{meantLexed}
+use Rattle.lex_source.specs.Lexed.{meantLexed, unlessHigh}
+use Rattle.lex_source.proofs.WalkSteps as bytes
+use Rattle.text.specs.Runs.{runEnd}
+use Rattle.text.specs.declared.Class.the-variants as class
+use Rattle.walks.proofs.Read.{read-verdict}
 use Rattle.rules.proofs.Following.{statement-goes, statements-on, statements-none, statements-refused}
 use Rattle.parse.specs.declared.Statement.{Statement}
 use Rattle.parse.specs.declared.NextStatement.{NextStatement}
@@ -20,7 +24,7 @@ use Rattle.parse.specs.declared.NextStatement.the-variants as next
 use Rattle.parse.specs.declared.Statements.{Statements}
 use Rattle.parse.specs.declared.Statements.the-variants.{Accepted}
 use Rattle.parse.specs.declared.Statements.the-variants as all
-use Rattle.parse.specs.Coded.{codedRead, codedStatement, codedStatements, sourceStatements}
+use Rattle.parse.specs.Coded.{codedRead, codedStatement, codedStatements, sourceStatements, AllRead}
 
 -- what the code's answer says of the rules'
 pub record WasRead (o : Outcome (Option Read)) (st : Statement) : Type 0 where
@@ -118,3 +122,29 @@ module _ (s : List ℕ) (x : Lexed) (h : meantLexed x ≡ verdict (lexed s)) whe
       go (refused y) w =
           let i : record { number = n; first = span a e; second = nowhere } ≡ y = cc in
           rw (← i)
+
+-- THE STATEMENTS FIRST
+all-read : (s : List ℕ) (o : Outcome (List Stmt)) → statements s ≡ o → Accepted ≡ codedStatements o → AllRead s
+unfolding codedStatements
+all-read s (ok ss) q e = record { stmts = ss; read = q }
+all-read s (refused r) q e = let z : _≡_ {A = ℕ} 0 1 = cc in absurd (omega arith)
+
+module _ (s : List ℕ) where
+  pub source-read : (x : Statements) → x ≡ codedStatements (statements s) → x ≡ Accepted → AllRead s
+  source-read x h e = all-read s (statements s) refl (sym e ∙ h)
+
+  pub source-long : 262144 < length s → all.Refused 11 0 (length s) ≡ codedStatements (sourceStatements s)
+  unfolding meantLexed
+  source-long l = source-fault s (Fault 11 0 (length s)) (whole-long s l) 11 0 (length s) refl
+
+  module _ (l : length s ≤ 262144) (a : AllRead s) (j : ℕ) (f : j ≡ runEnd class.Ascii s 0) where
+    low-verdict : verdict (lexed s) ≡ unlessHigh s 0 (ok tt)
+    unfolding unlessHigh
+    low-verdict = read-verdict s (a .stmts) (a .read) l
+
+    pub bytes-high : j < length s → all.Refused 12 j (j + 1) ≡ codedStatements (sourceStatements s)
+    bytes-high h = source-fault s (Fault 12 j (j + 1)) (bytes.rest-high s 0 (omega arith) f (ok tt) h ∙ sym low-verdict) 12 j (j + 1) refl
+
+    pub bytes-low : length s ≤ j → Accepted ≡ codedStatements (sourceStatements s)
+    unfolding meantLexed codedStatements
+    bytes-low h = source-clean s Clean (bytes.rest-none s 0 (omega arith) f (ok tt) h ∙ sym low-verdict) Accepted refl (sym (ap codedStatements (a .read)))

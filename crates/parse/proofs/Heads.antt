@@ -15,7 +15,7 @@ use Rattle.rules.specs.Tokens.{Kind, tokenIn, directive, word, upper, nextToken
 use Rattle.rules.specs.Words.{instructions, directives}
 use Rattle.rules.specs.Statements.{Name, asWord, asDirective, need, pastLines, pastLabels, labelsAt, instrRead, tokenRead, nextStatement}
 use Rattle.token.specs.Meant.{part, kindAt}
-use Rattle.lexeme.specs.declared.Lexeme.{Lexeme}
+use Rattle.token.specs.declared.Lexeme.{Lexeme}
 use Rattle.lexeme.specs.Sorts.{nameOf, kindBy, noRow, Stands}
 use Rattle.lexeme.proofs.Marks.{end-sort}
 use Rattle.labels.specs.declared.Walk.{Walk}

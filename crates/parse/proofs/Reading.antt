@@ -16,7 +16,7 @@ use Rattle.rules.specs.Words as words
 use Rattle.rules.specs.Statements.{Name, ends, tokenIs, bare, operandsFrom, lineEnd, read, stmt, rowRead, instrRead}
 use Rattle.rules.specs.Statements as rules
 use Rattle.rules.proofs.Ahead.{is-token, is-refused}
-use Rattle.lexeme.specs.declared.Lexeme.{Lexeme}
+use Rattle.token.specs.declared.Lexeme.{Lexeme}
 use Rattle.lexeme.specs.Sorts.{kindBy, noRow, Stands}
 use Rattle.lexeme.proofs.Marks.{line-sort, end-sort}
 use Rattle.operands.specs.declared.Given.{Given}

@@ -1,6 +1,7 @@
 -- The rules' statements as the code tells them. Assumes nothing.
 use Prim.Native.Nat.{ℕ}
 use mathlib.Core.Bool.{Bool, not}
+use mathlib.Core.Path.{_≡_}
 use mathlib.Core.List.{List, []}
 use mathlib.Core.Option.{Option, none, some}
 use lib.Dec.{eqb}
@@ -10,7 +11,7 @@ use Rattle.rules.specs.Words.{instr, orig, fill, blkw, stringz, end, external, 
 use Rattle.rules.specs.Words as words
 use Rattle.rules.specs.Tokens.{Token, lexed}
 use Rattle.rules.specs.Statements.{Name, Stmt, Read, need, ends, tokenIs, lineEnd, rowRead, statements}
-use Rattle.lexeme.specs.declared.Lexeme.{Lexeme}
+use Rattle.token.specs.declared.Lexeme.{Lexeme}
 use Rattle.operands.specs.declared.Given.{Given}
 use Rattle.operands.specs.declared.Step.{Step}
 use Rattle.operands.specs.declared.Step.the-variants as step
@@ -68,6 +69,11 @@ codedStatements (refused r) = all.Refused (r .number) (r .first .start) (r .firs
 -- lexical refusals come before those of statements, over the whole source
 unfoldable pub sourceStatements : List ℕ → Outcome (List Stmt)
 sourceStatements s = lexed s >>= λ ts. statements s
+
+-- a source whose statements are read
+pub record AllRead (s : List ℕ) : Type 0 where
+  pub stmts : List Stmt
+  pub read : statements s ≡ ok stmts
 
 -- STEPS ON THE WAY
 

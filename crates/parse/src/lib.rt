@@ -1,15 +1,16 @@
 // One statement at a time, from the source.
 use lex_source::Lexed;
-use lexeme::Lexeme;
 use lexeme::next_lexeme;
 use operands::Given;
 use operands::Step;
 use statement_rows::Op;
 use statement_rows::Row;
+use text::Class;
+use token::Lexeme;
 ghost use mathlib.Core.Path.{_≡_};
 ghost use mathlib.Core.Bool.{not};
 ghost use mathlib.Core.List.{List, map};
-ghost use Prim.Native.Nat.{_+_, _<_};
+ghost use Prim.Native.Nat.{_+_, _≤_, _<_};
 ghost use lib.Dec.{eqb};
 ghost use lib.ListN.{length, getD};
 ghost use Rattle.rules.specs.Base.{span};
@@ -19,7 +20,7 @@ ghost use Rattle.rules.specs.Statements.{Name, instrRead, nextStatement, statem
 ghost use Rattle.token.specs.Meant.{part};
 ghost use Rattle.lexeme.specs.Sorts.{noRow};
 ghost use Rattle.statement_rows.specs.Rows.{fieldsBy};
-ghost use Rattle.parse.specs.Coded.{made, finished, rowStep, nopStep, bareRow, unfitAt, dotRead, codedStatement, codedStatements, sourceStatements};
+ghost use Rattle.parse.specs.Coded.{made, finished, rowStep, nopStep, bareRow, unfitAt, dotRead, codedStatement, codedStatements, sourceStatements, AllRead};
 
 // A statement: whether labels stand before it; what it does; its word or number as far as it is known; the number of values of its label operand's field (0: no label operand) and the
 // label's place; its string's place; its span, from the instruction or directive to the last operand; and where the next statement begins.
@@ -241,17 +242,56 @@ pub fn first_refusal(src: &[u8]) -> Statements
     }
 }
 
-// The first refusal of a source: the lexer's over the whole source, then that of its statements.
-pub fn check_source(src: &[u8]) -> Statements
+// 12 in a source whose statements are read: the lexer's walk has nothing else to refuse, since every token is read with its statement.
+pub fn check_bytes(src: &[u8]) -> Statements
+    requires { ⌜ (length (now src) ≤ 262144) × AllRead (now src) ⌝ }
     ensures { λ r. ⌜ r ≡ codedStatements (sourceStatements (now (src .entry))) ⌝ }
 {
-    let lexed = lex_source::first_refusal(src);
-    match lexed {
-        Lexed::Clean => first_refusal(src),
+    let high = text::run_end(src, 0, Class::Ascii);
+    if high < src.len() {
+        return Statements::Refused {
+            number: 12,
+            start: high,
+            end: high + 1,
+        };
+    }
+    Statements::Accepted
+}
+
+// The lexer's refusal of a source, or, where there is none, the answer of its statements.
+fn lexed_first(src: &[u8], answer: Statements) -> Statements
+    requires { ⌜ answer ≡ codedStatements (statements (now src)) ⌝ }
+    ensures { λ r. ⌜ r ≡ codedStatements (sourceStatements (now (src .entry))) ⌝ }
+{
+    match lex_source::first_refusal(src) {
+        Lexed::Clean => answer,
         Lexed::Fault { number, start, end } => Statements::Refused {
             number: number as u16,
             start,
             end,
         },
+    }
+}
+
+// The first refusal of a source: 11, 12, the lexer's over the whole source, then that of its statements.
+// The statements are read first: accepted, they leave only 12; refused, the lexer's walk says whether a refusal of its own goes before.
+pub fn check_source(src: &[u8]) -> Statements
+    ensures { λ r. ⌜ r ≡ codedStatements (sourceStatements (now (src .entry))) ⌝ }
+{
+    if 262144 < src.len() {
+        return Statements::Refused {
+            number: 11,
+            start: 0,
+            end: src.len(),
+        };
+    }
+    let answer = first_refusal(src);
+    match answer {
+        Statements::Accepted => check_bytes(src),
+        Statements::Refused {
+            number: _,
+            start: _,
+            end: _,
+        } => lexed_first(src, answer),
     }
 }

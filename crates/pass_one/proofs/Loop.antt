@@ -17,7 +17,7 @@ use Rattle.relocation_table.specs.Pending.{notes, Pending}
 use Rattle.parse.specs.declared.Statement.{Statement}
 use Rattle.parse.specs.declared.NextStatement.{NextStatement}
 use Rattle.parse.specs.declared.NextStatement.the-variants as next
-use Rattle.parse.specs.Coded.{codedRead, codedStatement}
+use Rattle.parse.specs.Coded.{codedRead, codedStatement, AllRead}
 use Rattle.parse.proofs.All.{WasRead, was-read, was-end, was-refused}
 use Rattle.reading.specs.Reading.{Faithful}
 use Rattle.reading.proofs.Read.{faithful}
@@ -68,12 +68,13 @@ pub record Left (rs qs src : List ℕ) (at : ℕ) (o : code.One) (ss : List Stmt
   pub is : statementsAt src at ≡ ok rest
   pub same : passOne rest (seen rs qs src o) ≡ passOne ss (one none [] [] 0 0)
 
--- tables of the length that they had
+-- tables of the length that they had; statements read from here on are the rest of all
 pub record Going (rs₀ qs₀ rs qs src : List ℕ) (at : ℕ) (o : code.One) : Type 0 where
   pub held : Held rs qs src o
   pub long : length rs ≡ length rs₀
   pub far : length qs ≡ length qs₀
   pub left : (ss : List Stmt) → statements src ≡ ok ss → Left rs qs src at o ss
+  pub back : (rest : List Stmt) → statementsAt src at ≡ ok rest → AllRead src
 
 module _ (rs qs src : List ℕ) (size : length src ≤ 262144) (room : 4096 ≤ length rs) (room2 : 4096 ≤ length qs) where
   held-none : Held rs qs src fresh
@@ -92,8 +93,12 @@ module _ (rs qs src : List ℕ) (size : length src ≤ 262144) (room : 4096 ≤ 
   unfolding statements symbols notes
   left-all ss e = record { rest = ss; is = e; same = refl }
 
+  back-all : (rest : List Stmt) → statementsAt src 0 ≡ ok rest → AllRead src
+  unfolding statements
+  back-all rest e = record { stmts = rest; read = e }
+
   pub going-start : (o : code.One) → o ≡ fresh → Going rs qs rs qs src 0 o
-  going-start o e = rw e (record { held = held-none; long = refl; far = refl; left = left-all })
+  going-start o e = rw e (record { held = held-none; long = refl; far = refl; left = left-all; back = back-all })
 
 module _ (rs₀ qs₀ rs qs src : List ℕ) (at : ℕ) (o : code.One) (g : Going rs₀ qs₀ rs qs src at o) (x : NextStatement) (h : x ≡ codedStatement (nextStatement src at)) where
   -- a source whose statements are refused
@@ -106,6 +111,7 @@ module _ (rs₀ qs₀ rs qs src : List ℕ) (at : ℕ) (o : code.One) (g : Going
         let u : _≡_ {A = ℕ} 0 1 = cc in
         absurd (omega arith));
     kept = λ o′ y. (let u : _≡_ {A = ℕ} 0 1 = cc in absurd (omega arith));
+    read = λ o′ y. (let u : _≡_ {A = ℕ} 0 1 = cc in absurd (omega arith));
   })
 
   -- the end
@@ -119,6 +125,7 @@ module _ (rs₀ qs₀ rs qs src : List ℕ) (at : ℕ) (o : code.One) (g : Going
             let n : _≡_ {A = List Stmt} [] (l .rest) = cc in
             j .rule ∙ (ap (λ (t : List Stmt). passOne t (seen rs qs src o)) n ∙ l .same));
         kept = j .kept;
+        read = λ o′ y. g .back [] (statements-none src at (was-end (nextStatement src at) (sym h ∙ q)));
       }
 
   -- a statement
@@ -167,6 +174,7 @@ module _ (rs₀ qs₀ rs qs src : List ℕ) (at : ℕ) (o : code.One) (g : Going
         left = λ ss y. (
             let w = after ss y in
             record { rest = w .rest; is = w .is; same = sym (ap (λ (t : Stepped). told (λ n. symbols n rs′ src) (λ n. notes n qs′ src) t >>= passOne (w .rest)) z) ∙ w .same });
+        back = λ rest e. g .back (it .read .stmt ∷ rest) (statements-on src at (it .read) (it .is) ∙ rw (nexts, e));
       }
 
       pub going-refused : (n c d e l : ℕ) → a ≡ Refused n c d e l → PassedOne rs′ qs′ src a
@@ -176,4 +184,5 @@ module _ (rs₀ qs₀ rs qs src : List ℕ) (at : ℕ) (o : code.One) (g : Going
             ap (told (λ n. symbols n rs′ src) (λ n. notes n qs′ src)) z
             ∙ (sym (ap (λ (t : Stepped). told (λ n. symbols n rs′ src) (λ n. notes n qs′ src) t >>= passOne (w .rest)) z) ∙ w .same));
         kept = step .kept;
+        read = λ o′ y. (let u : Went o′ ≡ Refused n c d e l = sym y ∙ z in let v : _≡_ {A = ℕ} 0 1 = cc in absurd (omega arith));
       }

@@ -1,6 +1,7 @@
 // Pass two over all statements of a source.
 use emitting::Emitted;
 use emitting::Two;
+use emitting::write_statement;
 use parse::NextStatement;
 ghost use mathlib.Core.Path.{_≡_};
 ghost use Rattle.pass_two.specs.Passing.{fresh, Passing, PassedTwo};
@@ -38,17 +39,7 @@ pub fn pass_two(
     loop {
         match parse::next_statement(src, at) {
             NextStatement::Read(st) => {
-                let answer = emitting::write_statement(
-                    src,
-                    rows,
-                    n,
-                    blocks,
-                    origs,
-                    words,
-                    marks,
-                    st,
-                    t,
-                );
+                let answer = write_statement(src, rows, n, blocks, origs, words, marks, st, t);
                 match answer {
                     Emitted::Went(next) => {
                         t = next;

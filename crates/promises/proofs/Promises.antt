@@ -10,7 +10,7 @@ use Rattle.rules.specs.Tokens.{Match, tokenAt, tokenIn, upper, nextToken, lexed
 use Rattle.rules.specs.Tokens as Kinds
 use Rattle.rules.specs.Patterns.{patterns, LongestMatch}
 use Rattle.rules.specs.Examples.{EveryRow}
-use Rattle.rules.specs.Base.{ok, refused, Refusal, span, nowhere}
+use Rattle.rules.specs.Base.{ok, refused, Refusal, span, nowhere, verdict}
 use Rattle.rules.specs.Passes.{assemble}
 use Rattle.rules.specs.Statements.{Name, fit, nameAt, pastLines, pastLabel, labelsAt, Read, nextStatement, statements}
 use Rattle.rules.specs.Words as R
@@ -19,7 +19,6 @@ use Rattle.rules.specs.Objects.{Object, nothing, Counts, countsOf, flat, lookup
 use Rattle.rules.specs.Buffers.{Buffers, short, lentWords, view, layout, Valid}
 use Rattle.rules.specs.Examples as Examples
 use Rattle.rules.proofs.Longest as Longest
-use Rattle.rules.proofs.Walk.{verdict}
 use Rattle.rules.proofs.Ahead as Ahead
 use Rattle.rules.proofs.Following as Following
 use Rattle.rules.proofs.Following.{Goes}

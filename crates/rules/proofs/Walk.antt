@@ -8,16 +8,11 @@ use native.Mathlib.Omega.{arith}
 use borrow.Author.Tests.{lt-ltb, le-ltb, le-leb, lt-leb}
 use lib.ListN.{length, drop, getD, drop-of-length-le}
 use lib.Seq.{drop-cons}
-use Rattle.rules.specs.Base.{Outcome, ok, refused, refuse, _>>=_, _>>_, span}
+use Rattle.rules.specs.Base.{Outcome, ok, refused, refuse, _>>=_, _>>_, span, verdict}
 use Rattle.rules.specs.Tokens.{Token, tokenIn, Kind, number, register, mark, word, directive, text, token, blank, bad, match, kept, nextToken, tokensFrom, tokens, ascii, lexed}
 use Rattle.rules.proofs.Lexing.{andThen, tokens-next}
 use Rattle.rules.proofs.Shown.{Tells}
 use Rattle.rules.proofs.Next.{next-induction}
-
--- acceptance or the refusal, whatever was accepted
-unfoldable pub verdict : {A : Type 0} → Outcome A → Outcome (Unit {0})
-verdict (ok a) = ok tt
-verdict (refused r) = refused r
 
 verdict-more : (t : List Token) (o : Outcome (List Token)) → verdict (o >>= λ ts. ok (t ++ ts)) ≡ verdict o
 unfolding verdict

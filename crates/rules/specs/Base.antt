@@ -61,6 +61,11 @@ abbrev pub require : Bool → ℕ → Span → Outcome (Unit {0})
 require true n p = ok tt
 require false n p = refuse n p
 
+-- acceptance or the refusal, whatever was accepted
+unfoldable pub verdict : {A : Type 0} → Outcome A → Outcome (Unit {0})
+verdict (ok a) = ok tt
+verdict (refused r) = refused r
+
 -- the bytes of a text
 abbrev pub bytes : String → List ℕ
 bytes S.[] = []

@@ -1,12 +1,38 @@
 -- `asm::assemble` meets its contract. Assumes nothing.
+use Rattle.asm.proofs.Stages.{table-long, call-begun, call-fits, call-long, call-went, call-stopped}
 use borrow.Author.Needs.{needs}
-use mathlib.Core.Path.{sym, _∙_}
-use Rattle.asm.proofs.Stages.{readable, short-leaves, called-read, refused-leaves}
 use Rattle.asm.proofs.assemble.Statement.{statement}
 use Rattle.asm.proofs.assemble.Tie as tie
 
 is-short-requires : tie.Need-is-short-requires
 is-short-requires c κs = search needs
+
+lent-words-requires : tie.Need-lent-words-requires
+lent-words-requires c κs = search needs
+
+slice-aggregate-first-half : tie.Need-slice-aggregate-first-half
+slice-aggregate-first-half c = search needs
+
+slice-aggregate-first-half-2 : tie.Need-slice-aggregate-first-half-2
+slice-aggregate-first-half-2 c = search needs
+
+first-half-requires : tie.Need-first-half-requires
+first-half-requires c κs = (table-long, table-long)
+
+enum-known-o : tie.Need-enum-known-o
+enum-known-o c = search needs
+
+slice-aggregate-second-half : tie.Need-slice-aggregate-second-half
+slice-aggregate-second-half c = search needs
+
+slice-aggregate-second-half-2 : tie.Need-slice-aggregate-second-half-2
+slice-aggregate-second-half-2 c = search needs
+
+second-half-requires : tie.Need-second-half-requires
+second-half-requires c κs = (call-begun _ _ _ _ _ _ (c .before .before .before .before .before .before .before .before .before .before .before .before .before .before .before .before .before .before .before .is-short .ensures) (c .before .before .before .before .before .before .before .before .before .before .before .before .before .before .before .before .lent-words .ensures) _ (c .before .before .before .before .before .before .before .before .before .before .before .before .before .first-half .ensures) _ (c .before .before .before .before .before .before .before .before .before .o .given .1), call-fits _ _ _ _ _ _ (c .before .before .before .before .before .before .before .before .before .before .before .before .before .before .before .before .before .before .before .is-short .ensures) (c .before .before .before .before .before .before .before .before .before .before .before .before .before .before .before .before .lent-words .ensures) _ (c .before .before .before .before .before .before .before .before .before .before .before .before .before .first-half .ensures) _ (c .before .before .before .before .before .before .before .before .before .o .given .1), call-long _ _ _ _ _ _ (c .before .before .before .before .before .before .before .before .before .before .before .before .before .before .before .before .before .before .before .is-short .ensures) (c .before .before .before .before .before .before .before .before .before .before .before .before .before .before .before .before .lent-words .ensures) _ (c .before .before .before .before .before .before .before .before .before .before .before .before .before .first-half .ensures) _ (c .before .before .before .before .before .before .before .before .before .o .given .1))
+
+enum-known-number : tie.Need-enum-known-number
+enum-known-number c = search needs
 
 refuse-requires : tie.Need-refuse-requires
 refuse-requires c κs = search needs
@@ -30,22 +56,7 @@ same-length-6 : tie.Need-same-length-6
 same-length-6 c = search needs
 
 returns : tie.Need-returns
-returns c = short-leaves _ _ _ _ (sym (c .before .before .before .before .before .before .before .before .before .before .before .before .before .before .before .before .before .before .before .before .is-short .ensures) ∙ c .before .before .before .before .before .before .before .before .before .before .before .before .before .before .before .before .before .before .before .if1 .taken) (c .before .before .before .before .before .before .before .before .before .before .before .before .refuse .ensures)
-
-check-source-requires : tie.Need-check-source-requires
-check-source-requires c κs = search needs
-
-enum-told : tie.Need-enum-told
-enum-told c = search needs
-
-both-passes-requires : tie.Need-both-passes-requires
-both-passes-requires c κs = (readable _ _ (c .before .before .before .before .before .before .before .before .check-source .ensures) (c .before .before .before .before .before .before .enum-told .given .1), sym (c .before .before .before .before .before .before .before .before .before .before .is-short .ensures) ∙ c .before .before .before .before .before .before .before .before .before .if1 .left)
-
-enum-known-number : tie.Need-enum-known-number
-enum-known-number c = search needs
-
-refuse-requires-2 : tie.Need-refuse-requires-2
-refuse-requires-2 c κs = search needs
+returns c = call-went _ _ _ _ _ _ (c .before .before .before .before .before .before .before .before .before .before .before .before .before .before .before .before .before .before .before .before .before .before .before .before .before .before .before .before .before .before .before .before .is-short .ensures) (c .before .before .before .before .before .before .before .before .before .before .before .before .before .before .before .before .before .before .before .before .before .before .before .before .before .before .before .before .before .lent-words .ensures) _ (c .before .before .before .before .before .before .before .before .before .before .before .before .before .before .before .before .before .before .before .before .before .before .before .before .before .before .first-half .ensures) _ (c .before .before .before .before .before .before .before .before .before .before .before .before .before .before .before .before .before .before .before .before .before .before .o .given .1) _ _ (c .before .before .before .before .before .before .before .before .before .before .before .before .second-half .ensures)
 
 same-length-7 : tie.Need-same-length-7
 same-length-7 c = search needs
@@ -66,34 +77,22 @@ same-length-12 : tie.Need-same-length-12
 same-length-12 c = search needs
 
 returns-2 : tie.Need-returns-2
-returns-2 c = called-read _ _ _ _ (sym (c .before .before .before .before .before .before .before .before .before .before .before .before .before .before .before .before .before .before .before .before .before .before .before .is-short .ensures) ∙ c .before .before .before .before .before .before .before .before .before .before .before .before .before .before .before .before .before .before .before .before .before .before .if1 .left) _ (c .before .before .before .before .before .before .before .before .before .before .before .before .before .before .before .before .before .before .before .before .before .check-source .ensures) (c .before .before .before .before .before .before .before .before .before .before .before .before .before .before .before .before .before .before .before .enum-told .given .1) (c .before .before .before .before .before .before .before .before .before .before .before .before .both-passes .ensures)
-
-same-length-13 : tie.Need-same-length-13
-same-length-13 c = search needs
-
-same-length-14 : tie.Need-same-length-14
-same-length-14 c = search needs
-
-same-length-15 : tie.Need-same-length-15
-same-length-15 c = search needs
-
-same-length-16 : tie.Need-same-length-16
-same-length-16 c = search needs
-
-same-length-17 : tie.Need-same-length-17
-same-length-17 c = search needs
-
-same-length-18 : tie.Need-same-length-18
-same-length-18 c = search needs
-
-returns-3 : tie.Need-returns-3
-returns-3 c = refused-leaves _ _ _ _ (sym (c .before .before .before .before .before .before .before .before .before .before .before .before .before .before .before .before .before .before .before .before .before .before .before .before .is-short .ensures) ∙ c .before .before .before .before .before .before .before .before .before .before .before .before .before .before .before .before .before .before .before .before .before .before .before .if1 .left) _ (c .before .before .before .before .before .before .before .before .before .before .before .before .before .before .before .before .before .before .before .before .before .before .check-source .ensures) _ _ _ (c .before .before .before .before .before .before .before .before .before .before .before .before .before .before .before .before .before .before .before .before .number .given .1) (c .before .before .before .before .before .before .before .before .before .before .before .before .refuse2 .ensures)
+returns-2 c = call-stopped _ _ _ _ _ _ (c .before .before .before .before .before .before .before .before .before .before .before .before .before .before .before .before .before .before .before .before .before .before .before .before .before .before .before .before .before .before .is-short .ensures) (c .before .before .before .before .before .before .before .before .before .before .before .before .before .before .before .before .before .before .before .before .before .before .before .before .before .before .before .lent-words .ensures) _ (c .before .before .before .before .before .before .before .before .before .before .before .before .before .before .before .before .before .before .before .before .before .before .before .before .first-half .ensures) _ _ _ _ _ (c .before .before .before .before .before .before .before .before .before .before .before .before .before .before .before .before .before .before .before .before .number .given .1) _ _ (c .before .before .before .before .before .before .before .before .before .before .before .before .refuse .ensures)
 
 pub assemble-spec : {M : Type 1} → statement M
 assemble-spec =
     tie.close
     (tie.spec
     is-short-requires
+    lent-words-requires
+    slice-aggregate-first-half
+    slice-aggregate-first-half-2
+    first-half-requires
+    enum-known-o
+    slice-aggregate-second-half
+    slice-aggregate-second-half-2
+    second-half-requires
+    enum-known-number
     refuse-requires
     same-length
     same-length-2
@@ -102,22 +101,10 @@ assemble-spec =
     same-length-5
     same-length-6
     returns
-    check-source-requires
-    enum-told
-    both-passes-requires
-    enum-known-number
-    refuse-requires-2
     same-length-7
     same-length-8
     same-length-9
     same-length-10
     same-length-11
     same-length-12
-    returns-2
-    same-length-13
-    same-length-14
-    same-length-15
-    same-length-16
-    same-length-17
-    same-length-18
-    returns-3)
+    returns-2)

@@ -1,11 +1,14 @@
 -- A refusal clears all six buffers. Assumes nothing.
+use Rattle.asm.proofs.Leaving.{leaves-refused}
 use borrow.Author.Needs.{needs}
 use Rattle.asm.proofs.refuse.Statement.{statement}
 use Rattle.asm.proofs.refuse.Tie as tie
-use Rattle.asm.proofs.Leaving.{leaves-refused}
 
 clear-requires : tie.Need-clear-requires
 clear-requires c κs = search needs
+
+refusal-requires : tie.Need-refusal-requires
+refusal-requires c κs = search needs
 
 same-length : tie.Need-same-length
 same-length c = search needs
@@ -33,6 +36,7 @@ refuse-spec =
     tie.close
     (tie.spec
     clear-requires
+    refusal-requires
     same-length
     same-length-2
     same-length-3

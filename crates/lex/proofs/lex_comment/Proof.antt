@@ -1,4 +1,6 @@
 -- `lex::lex_comment` meets its contract. Assumes nothing.
+use mathlib.Core.Path.{_∙_, ap}
+use Rattle.token.specs.Flat.{flatNext}
 use Rattle.lex.proofs.Told.{comment-line, comment-end}
 use borrow.Author.Needs.{needs}
 use Rattle.lex.proofs.lex_comment.Statement.{statement}
@@ -11,5 +13,7 @@ lex-comment-spec =
     (λ c. search needs)
     (λ c κs. search needs)
     (λ c. search needs)
-    (λ c. comment-line (c .before .before .before .args .src .now) (c .before .before .before .args .start) (c .before .before .before .pre) (c .before .run-end .ensures) (c .if1 .taken))
-    (λ c. comment-end (c .before .before .before .args .src .now) (c .before .before .before .args .start) (c .before .before .before .pre) (c .before .run-end .ensures) (c .if1 .left)))
+    (λ c κs. search needs)
+    (λ c. c .flat .ensures ∙ ap flatNext (comment-line (c .before .before .before .before .args .src .now) (c .before .before .before .before .args .start) (c .before .before .before .before .pre) (c .before .before .run-end .ensures) (c .before .if1 .taken)))
+    (λ c κs. search needs)
+    (λ c. c .flat2 .ensures ∙ ap flatNext (comment-end (c .before .before .before .before .args .src .now) (c .before .before .before .before .args .start) (c .before .before .before .before .pre) (c .before .before .run-end .ensures) (c .before .if1 .left))))

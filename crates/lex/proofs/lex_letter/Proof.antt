@@ -1,5 +1,6 @@
 -- `lex::lex_letter` meets its contract. Assumes nothing.
-use mathlib.Core.Path.{_∙_}
+use mathlib.Core.Path.{_∙_, ap}
+use Rattle.token.specs.Flat.{flatNext}
 use Rattle.lex.proofs.First.{told-r, told-x, told-word}
 use borrow.Author.Needs.{needs}
 use Rattle.lex.proofs.lex_letter.Statement.{statement}
@@ -12,8 +13,8 @@ lex-letter-spec =
     (λ c. search needs)
     (λ c κs. search needs)
     (λ c κs. search needs)
-    (λ c. c .lex-r .ensures ∙ told-r (c .before .before .before .before .before .args .src .now) (c .before .before .before .before .before .args .start) (c .before .before .before .before .before .pre .0) (c .before .before .before .before .before .pre .1) (c .before .before .upper-case .ensures) (c .before .if1 .taken))
+    (λ c. c .lex-r .ensures ∙ ap flatNext (told-r (c .before .before .before .before .before .args .src .now) (c .before .before .before .before .before .args .start) (c .before .before .before .before .before .pre .0) (c .before .before .before .before .before .pre .1) (c .before .before .upper-case .ensures) (c .before .if1 .taken)))
     (λ c κs. search needs)
-    (λ c. c .lex-x .ensures ∙ told-x (c .before .before .before .before .before .before .args .src .now) (c .before .before .before .before .before .before .args .start) (c .before .before .before .before .before .before .pre .0) (c .before .before .before .before .before .before .pre .1) (c .before .before .before .upper-case .ensures) (c .before .if2 .taken))
+    (λ c. c .lex-x .ensures ∙ ap flatNext (told-x (c .before .before .before .before .before .before .args .src .now) (c .before .before .before .before .before .before .args .start) (c .before .before .before .before .before .before .pre .0) (c .before .before .before .before .before .before .pre .1) (c .before .before .before .upper-case .ensures) (c .before .if2 .taken)))
     (λ c κs. search needs)
-    (λ c. c .lex-word .ensures ∙ told-word (c .before .before .before .before .before .before .args .src .now) (c .before .before .before .before .before .before .args .start) (c .before .before .before .before .before .before .pre .0) (c .before .before .before .before .before .before .pre .1) (c .before .before .before .upper-case .ensures) (c .before .before .if1 .left) (c .before .if2 .left)))
+    (λ c. c .lex-word .ensures ∙ ap flatNext (told-word (c .before .before .before .before .before .before .args .src .now) (c .before .before .before .before .before .before .args .start) (c .before .before .before .before .before .before .pre .0) (c .before .before .before .before .before .before .pre .1) (c .before .before .before .upper-case .ensures) (c .before .before .if1 .left) (c .before .if2 .left))))

@@ -1,5 +1,6 @@
 -- `lex::lex_minus` meets its contract. Assumes nothing.
-use mathlib.Core.Path.{_∙_}
+use mathlib.Core.Path.{_∙_, ap}
+use Rattle.token.specs.Flat.{flatNext}
 use Rattle.lex.proofs.Told.{minus-plain, minus-hash}
 use borrow.Author.Needs.{needs}
 use Rattle.lex.proofs.lex_minus.Statement.{statement}
@@ -13,6 +14,7 @@ lex-minus-spec =
     (λ c κs. search needs)
     (λ c κs. search needs)
     (λ c κs. search needs)
-    (λ c. minus-hash (c .before .before .before .before .before .args .src .now) (c .before .before .before .before .before .args .start) (c .before .before .before .before .before .pre) (c .before .before .before .byte-at .ensures) (c .before .before .if1 .taken) (c .before .run-end .ensures) (c .run-end2 .ensures))
     (λ c κs. search needs)
-    (λ c. c .lex-signed-dec .ensures ∙ minus-plain (c .before .before .before .before .args .src .now) (c .before .before .before .before .args .start) (c .before .before .before .before .pre) (c .before .before .byte-at .ensures) (c .before .if1 .left)))
+    (λ c. c .flat .ensures ∙ ap flatNext (minus-hash (c .before .before .before .before .before .before .args .src .now) (c .before .before .before .before .before .before .args .start) (c .before .before .before .before .before .before .pre) (c .before .before .before .before .byte-at .ensures) (c .before .before .before .if1 .taken) (c .before .before .run-end .ensures) (c .before .run-end2 .ensures)))
+    (λ c κs. search needs)
+    (λ c. c .lex-signed-dec .ensures ∙ ap flatNext (minus-plain (c .before .before .before .before .args .src .now) (c .before .before .before .before .args .start) (c .before .before .before .before .pre) (c .before .before .byte-at .ensures) (c .before .if1 .left))))

@@ -1,8 +1,12 @@
 -- `lex::next_token` meets its contract. Assumes nothing.
-use mathlib.Core.Path.{_∙_, ap}
+use mathlib.Core.Path.{sym, subst, _∙_, ap}
+use Rattle.rules.specs.Tokens.{nextToken}
+use Rattle.token.specs.Coded.{coded}
+use Rattle.token.specs.Flat.{nextOf, Narrow}
 use Rattle.token.specs.Meant.{meant}
+use Rattle.token.proofs.Back.{there-and-back}
 use Rattle.token.proofs.MeantCoded.{meant-coded}
-use Rattle.lex.proofs.First.{no-space, next-told, next-done}
+use Rattle.lex.proofs.Narrowness.{next-narrow}
 use borrow.Author.Needs.{needs}
 use Rattle.lex.proofs.next_token.Statement.{statement}
 use Rattle.lex.proofs.next_token.Tie as tie
@@ -12,6 +16,5 @@ next-token-spec =
     tie.close
     (tie.spec
     (λ c κs. search needs)
-    (λ c κs. (c .if1 .taken, no-space (c .before .before .before .args .src .now) (c .before .before .before .args .at) (c .before .run-end .ensures) (c .if1 .taken)))
-    (λ c. let r = next-told (c .before .before .before .before .args .src .now) (c .before .before .before .before .args .at) (c .before .before .run-end .ensures) (c .before .if1 .taken) (c .token-at .ensures) in (ap (meant (c .before .before .before .before .args .src .now)) r ∙ meant-coded (c .before .before .before .before .args .src .now) (c .before .before .before .before .args .at), r))
-    (λ c. let r = next-done (c .before .before .before .args .src .now) (c .before .before .before .args .at) (c .before .run-end .ensures) (c .if1 .left) in (ap (meant (c .before .before .before .args .src .now)) r ∙ meant-coded (c .before .before .before .args .src .now) (c .before .before .before .args .at), r)))
+    (λ c κs. subst Narrow (sym (c .lexeme-at .ensures)) (next-narrow (c .before .before .args .src .now) (c .before .before .args .at)))
+    (λ c. let r = c .next-of .ensures ∙ ap nextOf (c .before .lexeme-at .ensures) ∙ there-and-back (coded (nextToken (c .before .before .before .args .src .now) (c .before .before .before .args .at))) in (ap (meant (c .before .before .before .args .src .now)) r ∙ meant-coded (c .before .before .before .args .src .now) (c .before .before .before .args .at), r)))

@@ -1,5 +1,6 @@
 -- `lex::token_at` meets its contract. Assumes nothing.
-use mathlib.Core.Path.{sym, _∙_}
+use mathlib.Core.Path.{sym, _∙_, ap}
+use Rattle.token.specs.Flat.{flatNext}
 use Rattle.lex.proofs.First.{told-digit, told-hash, told-minus, told-other}
 use borrow.Author.Needs.{needs}
 use Rattle.lex.proofs.token_at.Statement.{statement}
@@ -15,10 +16,10 @@ token-at-spec =
     (λ c. search needs)
     (λ c κs. search needs)
     (λ c κs. search needs)
-    (λ c. c .lex-unsigned-dec .ensures ∙ told-digit (c .before .before .before .before .before .before .before .args .src .now) (c .before .before .before .before .before .before .before .args .start) (c .before .before .before .before .before .before .before .pre .0) (sym (c .before .before .is-digit .ensures) ∙ c .before .if2 .taken))
+    (λ c. c .lex-unsigned-dec .ensures ∙ ap flatNext (told-digit (c .before .before .before .before .before .before .before .args .src .now) (c .before .before .before .before .before .before .before .args .start) (c .before .before .before .before .before .before .before .pre .0) (sym (c .before .before .is-digit .ensures) ∙ c .before .if2 .taken)))
     (λ c κs. search needs)
-    (λ c. c .lex-hash .ensures ∙ told-hash (c .before .before .before .before .before .before .before .before .args .src .now) (c .before .before .before .before .before .before .before .before .args .start) (c .before .before .before .before .before .before .before .before .pre .0) (c .before .if3 .taken))
+    (λ c. c .lex-hash .ensures ∙ ap flatNext (told-hash (c .before .before .before .before .before .before .before .before .args .src .now) (c .before .before .before .before .before .before .before .before .args .start) (c .before .before .before .before .before .before .before .before .pre .0) (c .before .if3 .taken)))
     (λ c κs. search needs)
-    (λ c. c .lex-minus .ensures ∙ told-minus (c .before .before .before .before .before .before .before .before .before .args .src .now) (c .before .before .before .before .before .before .before .before .before .args .start) (c .before .before .before .before .before .before .before .before .before .pre .0) (c .before .if4 .taken))
+    (λ c. c .lex-minus .ensures ∙ ap flatNext (told-minus (c .before .before .before .before .before .before .before .before .before .args .src .now) (c .before .before .before .before .before .before .before .before .before .args .start) (c .before .before .before .before .before .before .before .before .before .pre .0) (c .before .if4 .taken)))
     (λ c κs. search needs)
-    (λ c. c .lex-other .ensures ∙ told-other (c .before .before .before .before .before .before .before .before .before .args .src .now) (c .before .before .before .before .before .before .before .before .before .args .start) (c .before .before .before .before .before .before .before .before .before .pre .0) (sym (c .before .before .before .before .before .before .is-letter .ensures) ∙ c .before .before .before .before .before .if1 .left) (sym (c .before .before .before .before .is-digit .ensures) ∙ c .before .before .before .if2 .left) (c .before .before .if3 .left) (c .before .if4 .left)))
+    (λ c. c .lex-other .ensures ∙ ap flatNext (told-other (c .before .before .before .before .before .before .before .before .before .args .src .now) (c .before .before .before .before .before .before .before .before .before .args .start) (c .before .before .before .before .before .before .before .before .before .pre .0) (sym (c .before .before .before .before .before .before .is-letter .ensures) ∙ c .before .before .before .before .before .if1 .left) (sym (c .before .before .before .before .is-digit .ensures) ∙ c .before .before .before .if2 .left) (c .before .before .if3 .left) (c .before .if4 .left))))

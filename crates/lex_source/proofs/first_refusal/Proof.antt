@@ -2,8 +2,9 @@
 use Prim.Native.Nat.{_-_, _≤_}
 use mathlib.Core.Path.{_≡_}
 use lib.ListN.{length}
+use Rattle.rules.specs.Base.{verdict}
 use Rattle.rules.specs.Tokens.{lexed}
-use Rattle.rules.proofs.Walk.{verdict, wholeOn, whole-start, whole-long}
+use Rattle.rules.proofs.Walk.{wholeOn, whole-start, whole-long}
 use Rattle.lex_source.specs.Lexed.{meantLexed}
 use Rattle.lex_source.proofs.WalkSteps.{took-less, took-in, walk-high, walk-on, walk-end, walk-refused, part-start}
 use borrow.Author.Needs.{needs}

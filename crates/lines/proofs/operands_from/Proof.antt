@@ -1,42 +1,51 @@
 -- `lines::operands_from` meets its contract. Assumes nothing.
-use Rattle.lines.proofs.Following.{bare-room, first-room, second-room, line-none, line-one, line-two, line-three}
+use Prim.Native.Nat.{_-_}
+use native.Mathlib.Omega.{arith}
+use Rattle.statement_rows.specs.Rows.{fieldsBy}
+use Rattle.lines.proofs.Following.{Midway, mid-start, row-end, row-room, row-refused, row-on}
 use borrow.Author.Needs.{needs}
 use Rattle.lines.proofs.operands_from.Statement.{statement}
 use Rattle.lines.proofs.operands_from.Tie as tie
 
-bare-requires : tie.Need-bare-requires
-bare-requires c κs = search needs
+abbrev Inv-loop : tie.InvT-loop
+Inv-loop src at row other count g₀ k₀ g k = Midway src other (fieldsBy (row .count) (row .first) (row .second) (row .third)) (row .base) at k g
 
-returns : tie.Need-returns
-returns c = search (needs, line-none)
+abbrev μ-loop : tie.MeasureT-loop
+μ-loop src at row other count g₀ k₀ g k = count - k
 
-operand-at-requires : tie.Need-operand-at-requires
-operand-at-requires c κs = search (needs, bare-room)
+loop-holds : tie.Need-loop-holds Inv-loop μ-loop
+loop-holds c = search (needs, mid-start)
 
-returns-2 : tie.Need-returns-2
-returns-2 c = search (needs, line-one)
+next-operand-requires : tie.Need-next-operand-requires Inv-loop μ-loop
+next-operand-requires c κs = row-room _ _ _ _ (c .before .before .before .before .before .before .args .row .count) (c .before .before .before .before .before .before .args .row .first) (c .before .before .before .before .before .before .args .row .second) (c .before .before .before .before .before .before .args .row .third) _ _ _ (c .before .before .loop .inv) (c .before .before .before .before .operand-count .ensures .0) (c .before .before .before .before .operand-count .ensures .1) (c .before .loop-test .taken)
 
-then-more-requires : tie.Need-then-more-requires
-then-more-requires c κs = search (needs, first-room)
+loop-less : tie.Need-loop-less Inv-loop μ-loop
+loop-less c = omega (arith, c .before .before .before .before .before .loop-test .taken)
 
-returns-3 : tie.Need-returns-3
-returns-3 c = search (needs, line-two)
+loop-again : tie.Need-loop-again Inv-loop μ-loop
+loop-again c = row-on _ _ _ _ (c .before .before .before .before .before .before .before .before .before .before .args .row .count) (c .before .before .before .before .before .before .before .before .before .before .args .row .first) (c .before .before .before .before .before .before .before .before .before .before .args .row .second) (c .before .before .before .before .before .before .before .before .before .before .args .row .third) _ _ _ (c .before .before .before .before .before .before .loop .inv) (c .before .before .before .before .before .before .before .before .operand-count .ensures .0) (c .before .before .before .before .before .before .before .before .operand-count .ensures .1) (c .before .before .before .before .before .loop-test .taken) _ (c .before .before .before .before .field-at .ensures) _ _ (c .before .before .before .next-operand .ensures) (c .before .step .given .1)
 
-then-more-requires-2 : tie.Need-then-more-requires-2
-then-more-requires-2 c κs = search (needs, second-room)
+returns : tie.Need-returns Inv-loop μ-loop
+returns c = row-refused _ _ _ _ (c .before .before .before .before .before .before .before .before .before .args .row .count) (c .before .before .before .before .before .before .before .before .before .args .row .first) (c .before .before .before .before .before .before .before .before .before .args .row .second) (c .before .before .before .before .before .before .before .before .before .args .row .third) _ _ _ (c .before .before .before .before .before .loop .inv) (c .before .before .before .before .before .before .before .operand-count .ensures .0) (c .before .before .before .before .before .before .before .operand-count .ensures .1) (c .before .before .before .before .loop-test .taken) _ (c .before .before .before .field-at .ensures) _ _ _ _ (c .before .before .next-operand .ensures) (c .enum-told .given .1)
 
-returns-4 : tie.Need-returns-4
-returns-4 c = search (needs, line-three)
+returns-2 : tie.Need-returns-2 Inv-loop μ-loop
+returns-2 c = row-end _ _ _ _ (c .before .before .before .before .before .args .row .count) (c .before .before .before .before .before .args .row .first) (c .before .before .before .before .before .args .row .second) (c .before .before .before .before .before .args .row .third) _ _ _ (c .before .loop .inv) (c .before .before .before .operand-count .ensures .0) (c .loop-test .left)
 
 pub operands-from-spec : {M : Type 1} → statement M
 operands-from-spec =
     tie.close
     (tie.spec
-    bare-requires
+    Inv-loop
+    μ-loop
+    (λ c κs. search needs)
+    (λ c κs. search needs)
+    loop-holds
+    (λ c κs. search needs)
+    next-operand-requires
+    (λ c. search needs)
+    (λ c. search needs)
+    loop-less
+    loop-again
+    (λ c. search needs)
     returns
-    operand-at-requires
-    returns-2
-    then-more-requires
-    returns-3
-    then-more-requires-2
-    returns-4)
+    returns-2)

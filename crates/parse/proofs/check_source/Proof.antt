@@ -1,8 +1,11 @@
 -- `parse::check_source` meets its contract. Assumes nothing.
-use Rattle.parse.proofs.All.{source-clean, source-fault}
+use Rattle.parse.proofs.All.{source-long, source-read}
 use borrow.Author.Needs.{needs}
 use Rattle.parse.proofs.check_source.Statement.{statement}
 use Rattle.parse.proofs.check_source.Tie as tie
+
+returns : tie.Need-returns
+returns c = search (needs, source-long)
 
 first-refusal-requires : tie.Need-first-refusal-requires
 first-refusal-requires c κs = search needs
@@ -10,29 +13,30 @@ first-refusal-requires c κs = search needs
 enum-told : tie.Need-enum-told
 enum-told c = search needs
 
-first-refusal-requires-2 : tie.Need-first-refusal-requires-2
-first-refusal-requires-2 c κs = search needs
+check-bytes-requires : tie.Need-check-bytes-requires
+check-bytes-requires c κs = (search needs, search (needs, source-read))
 
-enum-known-lexed : tie.Need-enum-known-lexed
-enum-known-lexed c = search needs
+enum-told-2 : tie.Need-enum-told-2
+enum-told-2 c = search needs
 
-cast-t7 : tie.Need-cast-t7
-cast-t7 c = search needs
-
-returns : tie.Need-returns
-returns c = search (needs, source-clean)
+lexed-first-requires : tie.Need-lexed-first-requires
+lexed-first-requires c κs = search needs
 
 returns-2 : tie.Need-returns-2
-returns-2 c = search (needs, source-fault)
+returns-2 c = search needs
+
+returns-3 : tie.Need-returns-3
+returns-3 c = search needs
 
 pub check-source-spec : {M : Type 1} → statement M
 check-source-spec =
     tie.close
     (tie.spec
+    returns
     first-refusal-requires
     enum-told
-    first-refusal-requires-2
-    enum-known-lexed
-    cast-t7
-    returns
-    returns-2)
+    check-bytes-requires
+    enum-told-2
+    lexed-first-requires
+    returns-2
+    returns-3)

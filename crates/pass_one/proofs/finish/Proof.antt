@@ -8,10 +8,10 @@ refused-requires : tie.Need-refused-requires
 refused-requires c κs = search needs
 
 returns : tie.Need-returns
-returns c = finish-open _ (c .before .before .pre) (c .before .if1 .taken) _ (c .refused .ensures)
+returns c = search (needs, finish-open)
 
 returns-2 : tie.Need-returns-2
-returns-2 c = finish-shut _ (c .before .pre) (c .if1 .left)
+returns-2 c = search (needs, finish-shut)
 
 pub finish-spec : {M : Type 1} → statement M
 finish-spec = tie.close (tie.spec refused-requires returns returns-2)

@@ -1,0 +1,16 @@
+-- `lines::next_operand` meets its contract. Assumes nothing.
+use Rattle.lines.proofs.Following.{next-at, next-refused}
+use borrow.Author.Needs.{needs}
+use Rattle.lines.proofs.next_operand.Statement.{statement}
+use Rattle.lines.proofs.next_operand.Tie as tie
+
+pub next-operand-spec : {M : Type 1} → statement M
+next-operand-spec =
+    tie.close
+    (tie.spec
+    (λ c κs. search needs)
+    (λ c. search needs)
+    (λ c κs. search needs)
+    (λ c. search needs)
+    (λ c. search (needs, next-at))
+    (λ c. search (needs, next-refused)))

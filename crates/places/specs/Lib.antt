@@ -1,0 +1,3 @@
+-- What the contracts of `places` cite. Assumes nothing.
+pub mod Lines
+pub mod Names

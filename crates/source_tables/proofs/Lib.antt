@@ -1,0 +1,2 @@
+-- Laws that the proofs of `source_tables` cite. Assumes nothing.
+pub mod Checked

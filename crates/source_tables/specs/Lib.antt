@@ -1,0 +1,2 @@
+-- What the contracts of `source_tables` cite beside the rules. Assumes nothing.
+pub mod Tabled

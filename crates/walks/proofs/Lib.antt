@@ -1,0 +1,3 @@
+-- Laws of the walks over a source. Assumes nothing.
+pub mod Read
+pub mod Single

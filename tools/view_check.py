@@ -1,0 +1,112 @@
+#!/usr/bin/env python3
+"""Holds the person's view (target/bin/lc3_explain) beside the listing, the kept answers of assembling and document 01's names.
+
+usage: view_check.py DOCUMENT-01, at the repository's root, after `rt check lc3_list lc3_explain`
+
+Each source of crates/assemble_vectors/data/vectors.txt that was assembled into full buffers is explained: number, name, line, column,
+the line and the carets of each place; of an object every word, label, external and relocation. The program has room for 32,768 words, so
+41 may come where the vectors have another number. Then all 65,536 words are explained, and the text of each is assembled again.
+"""
+import collections
+import re
+import subprocess
+import sys
+
+WIDTH = 100
+
+
+def run(program, src):
+    done = subprocess.run(["tools/run_program", program], input=src, capture_output=True, check=True)
+    return done.stdout.decode().split("\n")
+
+
+def names(path):
+    out = {}
+    for numbers, texts in re.findall(r"^\| ([\d, ]+) \| (\w[^|]*) \|", open(path).read(), re.M):
+        texts = re.sub(r" *\([^)]*\)", "", texts).split(", ")
+        out.update(zip(map(int, numbers.split(", ")), texts))
+    return out
+
+
+def shown(text):
+    return "".join(chr(b) if b == 9 or 32 <= b < 127 else "?" for b in text)
+
+
+def place_fault(src, start, end, word, lines):
+    """What is wrong with the lines of a place, if anything."""
+    first = src.rfind(b"\n", 0, start) + 1
+    feed = src.find(b"\n", first)
+    last = len(src) if feed < 0 else feed - src[first:feed].endswith(b"\r")
+    where = ", the end of the source" if start == len(src) else ", the end of the line" if start == last else ""
+    if lines[0] != "%sline %d, column %d%s:" % (word, src.count(b"\n", 0, start) + 1, start - first + 1, where):
+        return "place"
+    if last - first > WIDTH:
+        caret = len(lines[2]) - len(lines[2].lstrip())
+        right = "\t" in lines[2] or start == last or lines[1][caret] == shown(src[start:start + 1])
+        return None if right and len(lines[1]) <= 4 + 3 + WIDTH + 3 else "long line"
+    marks = ["\t" if src[i:i + 1] == b"\t" else " ^"[i >= start] for i in range(first, max(min(end, last), start + 1))]
+    right = lines[1:] == ["    " + shown(src[first:last]), "    " + "".join(marks)]
+    return None if right else "underline"
+
+
+def refusal_fault(src, number, name, places, view):
+    if not view[0].startswith("REFUSED %d %s: " % (number, name)):
+        return "heading"
+    if number in (11, 41):
+        return None if view[1].startswith("no place") and len(view) == 3 else "no place"
+    start, end, start2, end2 = places
+    if len(view) != (8 if end2 else 5):
+        return "lines"
+    return place_fault(src, start, end, "", view[1:4]) or (end2 and place_fault(src, start2, end2, "and ", view[4:7])) or None
+
+
+def object_fault(listing, view):
+    cells = [m.groups() for m in (re.match(r"x(\w{4})  (?:x(\w{4})|-)(?: |$)", l) for l in view) if m]
+    if [(a, w or "0000") for a, w in cells] != [tuple(l.split()) for l in listing if re.match(r"[0-9A-F]{4} ", l)]:
+        return "words"
+    for kind, *rest in map(str.split, filter(None, listing)):
+        if kind == "LABEL" and "LABEL x%s %s, where no word is" % tuple(rest) not in view:
+            if not any(l.startswith("x" + rest[0]) and l[14:].split(" ")[0] == rest[1] for l in view):
+                return "label"
+        if kind == "EXTERN" and "EXTERNAL " + rest[0] not in view:
+            return "external"
+        if kind == "REL" and not any(l.startswith("x%s  x0000" % rest[0]) and ".fill %s " % rest[1] in l for l in view):
+            return "relocation"
+    return None
+
+
+def sources(table):
+    tried, faults = collections.Counter(), 0
+    for line in open("crates/assemble_vectors/data/vectors.txt"):
+        fields = line.split()
+        if any(map(int, fields[4:10])):
+            continue
+        head, part, tail = (bytes.fromhex(fields[i].strip("-")) for i in (0, 1, 3))
+        src, places = head + part * int(fields[2]) + tail, list(map(int, fields[11:15]))
+        listing, view = run("lc3_list", src), run("lc3_explain", src)
+        number = int(listing[0].split()[1]) if listing[0].startswith("REFUSED") else 0
+        if number not in (11, 41) and number != int(fields[10]):
+            fault = "number"
+        else:
+            fault = refusal_fault(src, number, table[number], places, view) if number else object_fault(listing, view)
+        tried[number] += 1
+        if fault:
+            faults += 1
+            print(number, fault, src[:200])
+    print("%d sources, %d numbers, %d faults" % (sum(tried.values()), len(tried), faults))
+
+
+def words(step=2048):
+    faults = 0
+    for first in range(0, 65536, step):
+        block = ".orig x3000\n%s\n.end\n"
+        view = run("lc3_explain", (block % "\n".join(".fill x%04X" % w for w in range(first, first + step))).encode())
+        texts = [l[32:].split(";")[0] for l in view if re.match(r"x\w{4}  x", l)]
+        back = run("lc3_list", (block % "\n".join(texts)).encode())
+        got = [int(l.split()[1], 16) for l in back if re.match(r"[0-9A-F]{4} ", l)]
+        faults += got != list(range(first, first + step))
+    print("65,536 words, %d faults" % faults)
+
+
+sources(names(sys.argv[1]))
+words()
