@@ -8,7 +8,7 @@ ghost use mathlib.Core.Bool.{false};
 ghost use mathlib.Core.List.{List};
 ghost use Prim.Native.Nat.{_≤_};
 ghost use lib.ListN.{length};
-ghost use Rattle.rules.specs.Base.{ok, refuse2, span};
+ghost use Rattle.rules.specs.Base.{ok};
 ghost use Rattle.rules.specs.Statements.{Stmt, statements};
 ghost use Rattle.rules.specs.Buffers.{six, short, lentWords};
 ghost use Rattle.filling.specs.Tables.{seen};
@@ -44,26 +44,6 @@ fn refusal(number: u16, start: usize, end: usize, start2: usize, end2: usize) ->
         labels: 0,
         relocations: 0,
     }
-}
-
-// A refusal: every buffer is zero.
-fn refuse(
-    blocks: &mut [u16],
-    words: &mut [u16],
-    marks: &mut [u8],
-    labels: &mut [u32],
-    relocations: &mut [u32],
-    names: &mut [u8],
-    number: u16,
-    start: usize,
-    end: usize,
-    start2: usize,
-    end2: usize,
-) -> Answer
-    ensures { λ r. ⌜ Leaves (refuse2 number (span start end) (span start2 end2)) (six (now (blocks .entry)) (now (words .entry)) (now (marks .entry)) (now (labels .entry)) (now (relocations .entry)) (now (names .entry))) r (six (now (blocks .exit)) (now (words .exit)) (now (marks .exit)) (now (labels .exit)) (now (relocations .exit)) (now (names .exit))) ⌝ }
-{
-    object_layout::clear(blocks, words, marks, labels, relocations, names);
-    refusal(number, start, end, start2, end2)
 }
 
 // An object with these tables and blocks.
@@ -192,18 +172,9 @@ pub fn assemble(
             end,
             start2,
             end2,
-        } => refuse(
-            blocks,
-            words,
-            marks,
-            labels,
-            relocations,
-            names,
-            number,
-            start,
-            end,
-            start2,
-            end2,
-        ),
+        } => {
+            object_layout::clear(blocks, words, marks, labels, relocations, names);
+            refusal(number, start, end, start2, end2)
+        }
     }
 }

@@ -73,6 +73,12 @@ module _ (f : ℕ → ℕ) (a b : List ℕ) {i : ℕ} {x y : ℕ} (p : x ≡ f (
     pub order-again : y ≤ x → x ≤ y → ordered (mapFrom f a (i + 1)) (mapFrom f b (i + 1)) ≡ z
     order-again l m = sym (order-go f a b i h k p q m l) ∙ g
 
+-- bytes that are the same
+pub order-alike : (f : ℕ → ℕ) (a b : List ℕ) {i : ℕ} {z : Order} → i < length a → i < length b → ordered (mapFrom f a i) (mapFrom f b i) ≡ z → getD a i 0 ≡ getD b i 0 → ordered (mapFrom f a (i + 1)) (mapFrom f b (i + 1)) ≡ z
+order-alike f a b {i} h k g e =
+    let same : f (getD a i 0) ≡ f (getD b i 0) = ap f e in
+    order-again f a b refl refl h k g (omega arith) (omega arith)
+
 module _ (f : ℕ → ℕ) (a b : List ℕ) {i : ℕ} where
   pub same-done : {z : Bool} → length a ≡ length b → length a ≤ i → same (mapFrom f a i) (mapFrom f b i) ≡ z → true ≡ z
   same-done n h g = sym (same-end f a b i h (omega arith)) ∙ g

@@ -142,7 +142,7 @@ pub enum Order {
     Greater,
 }
 
-// Two names in upper case, bytewise; a name goes before a longer one that it begins.
+// Two names in upper case, bytewise; a name goes before a longer one that it begins. Bytes that are the same need no upper case.
 pub fn compare_names(a: &[u8], b: &[u8]) -> Order
     ensures { λ r. ⌜ r ≡ ordered (map upper (now (a .entry))) (map upper (now (b .entry))) ⌝ }
 {
@@ -151,15 +151,21 @@ pub fn compare_names(a: &[u8], b: &[u8]) -> Order
         if b.len() <= i {
             return Order::Greater;
         }
-        let x = upper_case(a[i]);
-        let y = upper_case(b[i]);
-        if x < y {
-            return Order::Less;
+        let p = a[i];
+        let q = b[i];
+        if p == q {
+            i += 1;
+        } else {
+            let x = upper_case(p);
+            let y = upper_case(q);
+            if x < y {
+                return Order::Less;
+            }
+            if y < x {
+                return Order::Greater;
+            }
+            i += 1;
         }
-        if y < x {
-            return Order::Greater;
-        }
-        i += 1;
     }
     if b.len() <= i {
         Order::Same

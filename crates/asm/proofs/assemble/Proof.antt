@@ -1,4 +1,5 @@
 -- `asm::assemble` meets its contract. Assumes nothing.
+use Rattle.asm.proofs.Leaving.{leaves-refused}
 use Rattle.asm.proofs.Stages.{table-long, call-begun, call-fits, call-long, call-went, call-stopped}
 use borrow.Author.Needs.{needs}
 use Rattle.asm.proofs.assemble.Statement.{statement}
@@ -34,8 +35,11 @@ second-half-requires c κs = (call-begun _ _ _ _ _ _ (c .before .before .before 
 enum-known-number : tie.Need-enum-known-number
 enum-known-number c = search needs
 
-refuse-requires : tie.Need-refuse-requires
-refuse-requires c κs = search needs
+clear-requires : tie.Need-clear-requires
+clear-requires c κs = search needs
+
+refusal-requires : tie.Need-refusal-requires
+refusal-requires c κs = search needs
 
 same-length : tie.Need-same-length
 same-length c = search needs
@@ -77,7 +81,7 @@ same-length-12 : tie.Need-same-length-12
 same-length-12 c = search needs
 
 returns-2 : tie.Need-returns-2
-returns-2 c = call-stopped _ _ _ _ _ _ (c .before .before .before .before .before .before .before .before .before .before .before .before .before .before .before .before .before .before .before .before .before .before .before .before .before .before .before .before .before .before .is-short .ensures) (c .before .before .before .before .before .before .before .before .before .before .before .before .before .before .before .before .before .before .before .before .before .before .before .before .before .before .before .lent-words .ensures) _ (c .before .before .before .before .before .before .before .before .before .before .before .before .before .before .before .before .before .before .before .before .before .before .before .before .first-half .ensures) _ _ _ _ _ (c .before .before .before .before .before .before .before .before .before .before .before .before .before .before .before .before .before .before .before .before .number .given .1) _ _ (c .before .before .before .before .before .before .before .before .before .before .before .before .refuse .ensures)
+returns-2 c = call-stopped _ _ _ _ _ _ (c .before .before .before .before .before .before .before .before .before .before .before .before .before .before .before .before .before .before .before .before .before .before .before .before .before .before .before .before .before .before .before .is-short .ensures) (c .before .before .before .before .before .before .before .before .before .before .before .before .before .before .before .before .before .before .before .before .before .before .before .before .before .before .before .before .lent-words .ensures) _ (c .before .before .before .before .before .before .before .before .before .before .before .before .before .before .before .before .before .before .before .before .before .before .before .before .before .first-half .ensures) _ _ _ _ _ (c .before .before .before .before .before .before .before .before .before .before .before .before .before .before .before .before .before .before .before .before .before .number .given .1) _ _ (leaves-refused _ _ _ _ _ _ _ (c .before .before .before .before .before .before .before .before .before .before .before .before .before .clear .ensures) _ (c .refusal .ensures))
 
 pub assemble-spec : {M : Type 1} → statement M
 assemble-spec =
@@ -93,7 +97,8 @@ assemble-spec =
     slice-aggregate-second-half-2
     second-half-requires
     enum-known-number
-    refuse-requires
+    clear-requires
+    refusal-requires
     same-length
     same-length-2
     same-length-3

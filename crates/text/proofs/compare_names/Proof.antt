@@ -6,7 +6,7 @@ use lib.ListN.{length}
 use Rattle.rules.specs.Tokens.{upper}
 use Rattle.text.specs.Names.{ordered}
 use Rattle.text.proofs.Rest.{from-start}
-use Rattle.text.proofs.NameLaws.{mapFrom, less-met, greater-met, order-again, short-met, long-met, same-met}
+use Rattle.text.proofs.NameLaws.{mapFrom, less-met, greater-met, order-again, order-alike, short-met, long-met, same-met}
 use borrow.Author.Needs.{needs}
 use Rattle.text.proofs.compare_names.Statement.{statement}
 use Rattle.text.proofs.compare_names.Tie as tie
@@ -26,13 +26,16 @@ compare-names-spec =
     (λ c. simp from-start)
     (λ c. long-met upper (c .before .before .before .before .before .args .a .now) (c .before .before .before .before .before .args .b .now) (c .before .before .loop .inv) (c .before .loop-test .taken) (c .if1 .taken))
     (λ c. search needs)
+    (λ c. search needs)
+    (λ c. search needs)
+    (λ c. search needs)
+    (λ c. order-alike upper (c .before .before .before .before .before .before .before .before .args .a .now) (c .before .before .before .before .before .before .before .before .args .b .now) (c .before .before .before .before .loop-test .taken) (c .before .before .before .if1 .left) (c .before .before .before .before .before .loop .inv) (c .if2 .taken))
     (λ c κs. search needs)
-    (λ c. search needs)
     (λ c κs. search needs)
-    (λ c. less-met upper _ _ (c .before .before .before .upper-case .ensures) (c .before .upper-case2 .ensures) (c .before .before .before .before .before .before .loop-test .taken) (c .before .before .before .before .before .if1 .left) (c .before .before .before .before .before .before .before .loop .inv) (c .if2 .taken))
-    (λ c. greater-met upper _ _ (c .before .before .before .before .upper-case .ensures) (c .before .before .upper-case2 .ensures) (c .before .before .before .before .before .before .before .loop-test .taken) (c .before .before .before .before .before .before .if1 .left) (c .before .before .before .before .before .before .before .before .loop .inv) (c .if3 .taken))
+    (λ c. less-met upper _ _ (c .before .before .upper-case .ensures) (c .before .upper-case2 .ensures) (c .before .before .before .before .before .before .before .loop-test .taken) (c .before .before .before .before .before .before .if1 .left) (c .before .before .before .before .before .before .before .before .loop .inv) (c .if3 .taken))
+    (λ c. greater-met upper _ _ (c .before .before .before .upper-case .ensures) (c .before .before .upper-case2 .ensures) (c .before .before .before .before .before .before .before .before .loop-test .taken) (c .before .before .before .before .before .before .before .if1 .left) (c .before .before .before .before .before .before .before .before .before .loop .inv) (c .if4 .taken))
     (λ c. search needs)
     (λ c. search needs)
-    (λ c. order-again upper _ _ (c .before .before .before .before .upper-case .ensures) (c .before .before .upper-case2 .ensures) (c .before .before .before .before .before .before .before .loop-test .taken) (c .before .before .before .before .before .before .if1 .left) (c .before .before .before .before .before .before .before .before .loop .inv) (c .before .if2 .left) (c .if3 .left))
-    (λ c. same-met upper (c .before .before .before .before .before .args .a .now) (c .before .before .before .before .before .args .b .now) (c .before .before .loop .inv) (c .before .loop-test .left) (c .if4 .taken))
-    (λ c. short-met upper (c .before .before .before .before .before .args .a .now) (c .before .before .before .before .before .args .b .now) (c .before .before .loop .inv) (c .before .loop-test .left) (c .if4 .left)))
+    (λ c. order-again upper _ _ (c .before .before .before .upper-case .ensures) (c .before .before .upper-case2 .ensures) (c .before .before .before .before .before .before .before .before .loop-test .taken) (c .before .before .before .before .before .before .before .if1 .left) (c .before .before .before .before .before .before .before .before .before .loop .inv) (c .before .if3 .left) (c .if4 .left))
+    (λ c. same-met upper (c .before .before .before .before .before .args .a .now) (c .before .before .before .before .before .args .b .now) (c .before .before .loop .inv) (c .before .loop-test .left) (c .if5 .taken))
+    (λ c. short-met upper (c .before .before .before .before .before .args .a .now) (c .before .before .before .before .before .args .b .now) (c .before .before .loop .inv) (c .before .loop-test .left) (c .if5 .left)))
