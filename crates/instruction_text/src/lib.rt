@@ -104,26 +104,11 @@ fn put_trap(out: &mut [u8], at: usize, vect: u16) -> usize {
     line_text::put_hex2(out, next, vect)
 }
 
-fn put_instr(out: &mut [u8], at: usize, instr: AsmInstr) -> usize {
+// Instructions that have no operands.
+fn put_bare(out: &mut [u8], at: usize, instr: AsmInstr) -> usize {
     match instr {
-        AsmInstr::ADD(d, s, o) => put_three(out, at, b"ADD ", d, s, o),
-        AsmInstr::AND(d, s, o) => put_three(out, at, b"AND ", d, s, o),
-        AsmInstr::BR(nzp, o) => put_branch(out, at, nzp, o),
-        AsmInstr::JMP(b) => put_one(out, at, b"JMP ", b),
-        AsmInstr::JSR(o) => put_far(out, at, b"JSR ", o),
-        AsmInstr::JSRR(b) => put_one(out, at, b"JSRR ", b),
-        AsmInstr::LD(d, o) => put_one_far(out, at, b"LD ", d, o),
-        AsmInstr::LDI(d, o) => put_one_far(out, at, b"LDI ", d, o),
-        AsmInstr::LDR(d, b, o) => put_two_far(out, at, b"LDR ", d, b, o),
-        AsmInstr::LEA(d, o) => put_one_far(out, at, b"LEA ", d, o),
-        AsmInstr::NOT(d, s) => put_two(out, at, b"NOT ", d, s),
         AsmInstr::RET => put(out, at, b"RET"),
         AsmInstr::RTI => put(out, at, b"RTI"),
-        AsmInstr::ST(s, o) => put_one_far(out, at, b"ST ", s, o),
-        AsmInstr::STI(s, o) => put_one_far(out, at, b"STI ", s, o),
-        AsmInstr::STR(s, b, o) => put_two_far(out, at, b"STR ", s, b, o),
-        AsmInstr::TRAP(v) => put_trap(out, at, v),
-        AsmInstr::NOP(o) => put_far(out, at, b"NOP ", o),
         AsmInstr::GETC => put(out, at, b"GETC"),
         AsmInstr::OUT => put(out, at, b"OUT"),
         AsmInstr::PUTC => put(out, at, b"PUTC"),
@@ -131,6 +116,36 @@ fn put_instr(out: &mut [u8], at: usize, instr: AsmInstr) -> usize {
         AsmInstr::IN => put(out, at, b"IN"),
         AsmInstr::PUTSP => put(out, at, b"PUTSP"),
         AsmInstr::HALT => put(out, at, b"HALT"),
+        _ => at,
+    }
+}
+
+// Instructions that load or store, and those that have no operands.
+fn put_memory(out: &mut [u8], at: usize, instr: AsmInstr) -> usize {
+    match instr {
+        AsmInstr::LD(d, o) => put_one_far(out, at, b"LD ", d, o),
+        AsmInstr::LDI(d, o) => put_one_far(out, at, b"LDI ", d, o),
+        AsmInstr::LDR(d, b, o) => put_two_far(out, at, b"LDR ", d, b, o),
+        AsmInstr::LEA(d, o) => put_one_far(out, at, b"LEA ", d, o),
+        AsmInstr::ST(s, o) => put_one_far(out, at, b"ST ", s, o),
+        AsmInstr::STI(s, o) => put_one_far(out, at, b"STI ", s, o),
+        AsmInstr::STR(s, b, o) => put_two_far(out, at, b"STR ", s, b, o),
+        _ => put_bare(out, at, instr),
+    }
+}
+
+fn put_instr(out: &mut [u8], at: usize, instr: AsmInstr) -> usize {
+    match instr {
+        AsmInstr::ADD(d, s, o) => put_three(out, at, b"ADD ", d, s, o),
+        AsmInstr::AND(d, s, o) => put_three(out, at, b"AND ", d, s, o),
+        AsmInstr::NOT(d, s) => put_two(out, at, b"NOT ", d, s),
+        AsmInstr::BR(nzp, o) => put_branch(out, at, nzp, o),
+        AsmInstr::JMP(b) => put_one(out, at, b"JMP ", b),
+        AsmInstr::JSR(o) => put_far(out, at, b"JSR ", o),
+        AsmInstr::JSRR(b) => put_one(out, at, b"JSRR ", b),
+        AsmInstr::NOP(o) => put_far(out, at, b"NOP ", o),
+        AsmInstr::TRAP(v) => put_trap(out, at, v),
+        _ => put_memory(out, at, instr),
     }
 }
 
