@@ -34,8 +34,8 @@ fn walk(which: u8, src: &[u8], blocks: &mut [u16], words: &mut [u16], marks: &mu
         }
     }
     if which == 79 {
-        match pass_one::pass_one(src, labels, relocations) {
-            counter::Stepped::Went(o) => { return o.words as u64; }
+        match pass1::pass_one(src, labels, relocations) {
+            pass1_state::Pass1Step::Went(o) => { return o.words as u64; }
             _ => { return 0; }
         }
     }
@@ -96,8 +96,7 @@ def built():
     (here / "repository/crates/timing/src").mkdir(parents=True)
     (here / "repository/crates/timing/src/main.rt").write_text(PROGRAM)
     rows = pathlib.Path("crates.txt").read_text()
-    below = next(row.split(":")[1] for row in rows.split("\n") if row.startswith("asm:"))
-    (here / "repository/crates.txt").write_text(rows + f"\ntiming:{below} asm lex reserved io libc os\n")
+    (here / "repository/crates.txt").write_text(rows + "\ntiming: lex_source parse pass1 pass1_state asm io libc os\n")
     env = dict(os.environ, RATTLE_HOME=str(kit_that_keeps(here)))
     done = subprocess.run(["rt", "try", "timing"], cwd=here / "repository", env=env, capture_output=True, text=True, check=False)
     if not (here / "program.1").exists():

@@ -3,11 +3,11 @@
 
 usage: view_check.py DOCUMENT-01, at the repository's root, after `rt check lc3_list lc3_explain`
 
-Each source of crates/assemble_vectors/data/vectors.txt that was assembled into full buffers is explained: number, name, line, column,
+Each source of crates/test_asm/data/vectors_1.txt and vectors_2.txt that was assembled into full buffers is explained: number, name, line, column,
 the line and the carets of each place; of an object every word, label, external and relocation. The program has room for 32,768 words, so
 41 may come where the vectors have another number. Then all 65,536 words are explained, and the text of each is assembled again.
 """
-import collections
+import collections, fileinput
 import re
 import subprocess
 import sys
@@ -77,7 +77,7 @@ def object_fault(listing, view):
 
 def sources(table):
     tried, faults = collections.Counter(), 0
-    for line in open("crates/assemble_vectors/data/vectors.txt"):
+    for line in fileinput.input(["crates/test_asm/data/vectors_1.txt", "crates/test_asm/data/vectors_2.txt"]):
         fields = line.split()
         if any(map(int, fields[4:10])):
             continue

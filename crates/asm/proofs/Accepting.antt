@@ -1,37 +1,30 @@
 -- What a call accepts is a good object in its one layout; a refusal leaves all zero; two answers that the contract allows are equal. Assumes nothing.
-use mathlib.Core.Path.{_≡_, refl, sym, _∙_, ap}
+use mathlib.Core.Path.{_≡_, refl, sym, _∙_}
 use mathlib.Core.Bool.{Bool, true, false}
 use mathlib.Core.List.{List}
-use Prim.Native.Nat.{ℕ, _≤_}
-use native.Mathlib.Omega.{arith}
-use lib.ListN.{length}
-use Rattle.rules.specs.Base.{if_then_else_, Outcome, ok, refused, Refusal, refuse, nowhere}
+use Prim.Native.Nat.{ℕ}
+use Rattle.rules.specs.Base.{if_then_else_, ok, refused, Refusal, refuse, nowhere}
 use Rattle.rules.specs.Answers.{answer}
-use Rattle.rules.specs.Answers as rule
-use Rattle.rules.specs.Objects.{Object, nothing, flat, countsOf, Good}
-use Rattle.rules.specs.Buffers.{Buffers, short, lentWords, view, layout, Valid}
+use Rattle.rules.specs.Objects.{Object, nothing}
+use Rattle.rules.specs.Buffers.{Buffers, short, lentWords, layout}
 use Rattle.rules.specs.Passes.{assemble}
+use Rattle.rules.specs.Calls.{ofBytes}
 use Rattle.rules.proofs.Fits.{layout-valid}
-use Rattle.accepted.proofs.Accepted.{accepted-good, accepted-fits}
+use Rattle.rules.proofs.Bools.{never}
+use Rattle.laws_accepted.proofs.Accepted.{accepted-good, accepted-fits}
 use Rattle.asm.specs.declared.Answer.{Answer}
-use Rattle.asm.specs.Call.{meant, called, Leaves, Assembled}
+use Rattle.asm.specs.Call.{meant, called, Leaves, Assembled, AcceptedCall}
 
 -- what the call accepts, the rule accepts, in buffers that are long enough
 called-accepts : (b : Buffers) (s : List ℕ) (o : Object) → called b s ≡ ok o → (short b ≡ false) × (assemble (lentWords (b .words) (b .marks)) s ≡ ok o)
-unfolding called if_then_else_
+unfolding called ofBytes if_then_else_
 called-accepts b s o e = go (short b) refl e
   where
     go : (t : Bool) → short b ≡ t → (if t then refuse 42 nowhere else assemble (lentWords (b .words) (b .marks)) s) ≡ ok o → (short b ≡ false) × (assemble (lentWords (b .words) (b .marks)) s ≡ ok o)
-    go true q x = let z : _≡_ {A = ℕ} 0 1 = cc in absurd (omega arith)
+    go true q x = never cc
     go false q x = (q, x)
 
-pub record Accepted (b : Buffers) (r : Answer) (b′ : Buffers) (o : Object) : Type 0 where
-  pub good : Good o
-  pub laid : b′ ≡ layout o b
-  pub counts : meant r ≡ rule.accepted (countsOf o)
-  pub valid : Valid (countsOf o) b′
-
-pub accepted-call : (b : Buffers) (s : List ℕ) (r : Answer) (b′ : Buffers) (o : Object) → Assembled b s r b′ → called b s ≡ ok o → Accepted b r b′ o
+pub accepted-call : (b : Buffers) (s : List ℕ) (r : Answer) (b′ : Buffers) (o : Object) → Assembled b s r b′ → called b s ≡ ok o → AcceptedCall b r b′ o
 unfolding answer
 accepted-call b s r b′ o h e =
     let c = called-accepts b s o e in

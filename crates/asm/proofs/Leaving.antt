@@ -1,19 +1,19 @@
 -- What the stages of assembling answer and leave. Assumes nothing.
-use mathlib.Core.Path.{_≡_, refl, sym, _∙_, ap}
+use mathlib.Core.Path.{_≡_, sym, ap}
 use mathlib.Core.List.{List}
 use Prim.Native.Nat.{ℕ}
-use Rattle.rules.specs.Base.{Outcome, ok, refused, refuse2, span}
+use Rattle.rules.specs.Base.{Outcome, ok, refuse2, span}
 use Rattle.rules.specs.Answers.{answer}
 use Rattle.rules.specs.Answers as rule
 use Rattle.rules.specs.Statements.{Stmt, statements}
 use Rattle.rules.specs.Objects.{Object, nothing}
 use Rattle.rules.specs.Buffers.{Buffers, layout}
-use Rattle.counter.specs.declared.One as code
-use Rattle.emitting.specs.declared.Two.{Two}
-use Rattle.emitting.specs.declared.Emitted.{Emitted}
-use Rattle.emitting.specs.declared.Emitted.the-variants.{Went, Refused}
-use Rattle.filling.specs.Tables.{seen}
-use Rattle.object_writing.specs.Made.{afterTwo, Making, Made}
+use Rattle.pass1_state.specs.declared.Pass1State as code
+use Rattle.pass2_statement.specs.declared.Pass2State.{Pass2State}
+use Rattle.pass2_statement.specs.declared.Pass2Step.{Pass2Step}
+use Rattle.pass2_statement.specs.declared.Pass2Step.the-variants.{Went, Refused}
+use Rattle.pass1_fill.specs.Tables.{seen}
+use Rattle.asm_second_half.specs.Made.{afterPass2, Making, Made}
 use Rattle.asm.specs.declared.Answer.{Answer}
 use Rattle.asm.specs.Call.{meant, accepting, refusing, Leaves}
 
@@ -22,13 +22,13 @@ unfolding answer
 leaves-refused n a e b f p q h r k = record { answer = ap meant k; buffers = h }
 
 -- PASS TWO
-module _ (rs qs src : List ℕ) (o : code.One) (b : Buffers) (z : Emitted) (x : Buffers) (h : Made rs qs src o b z x) where
-  made-leaves : (t : Two) (w : Outcome Object) → Making o t w b x → Leaves w b (accepting o t) x
+module _ (rs qs src : List ℕ) (o : code.Pass1State) (b : Buffers) (z : Pass2Step) (x : Buffers) (h : Made rs qs src o b z x) where
+  made-leaves : (t : Pass2State) (w : Outcome Object) → Making o t w b x → Leaves w b (accepting o t) x
   unfolding answer
   made-leaves t w m = rw (m .is) (record { answer = sym (ap rule.accepted (m .counts)); buffers = m .buffers })
 
-  pub went-leaves : (t : Two) → z ≡ Went t → (r : Answer) → r ≡ accepting o t → (ss : List Stmt) → statements src ≡ ok ss → Leaves (afterTwo ss (seen rs qs src o)) b r x
-  went-leaves t e r a ss q = rw a (made-leaves t (afterTwo ss (seen rs qs src o)) (h .went t e ss q))
+  pub went-leaves : (t : Pass2State) → z ≡ Went t → (r : Answer) → r ≡ accepting o t → (ss : List Stmt) → statements src ≡ ok ss → Leaves (afterPass2 ss (seen rs qs src o)) b r x
+  went-leaves t e r a ss q = rw a (made-leaves t (afterPass2 ss (seen rs qs src o)) (h .went t e ss q))
 
-  pub stopped-leaves : (n a e c d : ℕ) → z ≡ Refused n a e c d → (r : Answer) → r ≡ refusing n a e c d → (ss : List Stmt) → statements src ≡ ok ss → Leaves (afterTwo ss (seen rs qs src o)) b r x
+  pub stopped-leaves : (n a e c d : ℕ) → z ≡ Refused n a e c d → (r : Answer) → r ≡ refusing n a e c d → (ss : List Stmt) → statements src ≡ ok ss → Leaves (afterPass2 ss (seen rs qs src o)) b r x
   stopped-leaves n a e c d q r k ss s = rw (h .stopped n a e c d q ss s) (leaves-refused n a e c d b x (h .cleared n a e c d q) r k)

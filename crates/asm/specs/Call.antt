@@ -3,17 +3,17 @@ use mathlib.Core.Path.{_≡_}
 use mathlib.Core.Bool.{Bool, false}
 use mathlib.Core.List.{List}
 use Prim.Native.Nat.{ℕ, _≤_}
-use Rattle.rules.specs.Base.{if_then_else_, Outcome, ok, refused, refuse, refuse2, span, nowhere}
-use Rattle.rules.specs.Answers.{answer}
+use Rattle.rules.specs.Base.{if_then_else_, Outcome, refuse, refuse2, span, nowhere}
 use Rattle.rules.specs.Answers as rule
-use Rattle.rules.specs.Objects.{Object, nothing}
-use Rattle.rules.specs.Buffers.{Buffers, short, lentWords, layout}
+use Rattle.rules.specs.Objects.{Object, countsOf, Good}
+use Rattle.rules.specs.Buffers.{Buffers, lentWords, layout, Valid}
+use Rattle.rules.specs.Calls.{ofBytes, Makes}
 use Rattle.rules.specs.Passes.{assemble}
-use Rattle.counter.specs.declared.One.{One}
-use Rattle.counter.specs.declared.Stepped.{Stepped}
-use Rattle.counter.specs.declared.Stepped.the-variants.{Went, Refused}
-use Rattle.emitting.specs.declared.Two.{Two}
-use Rattle.source_tables.specs.Tabled.{Begun}
+use Rattle.pass1_state.specs.declared.Pass1State.{Pass1State}
+use Rattle.pass1_state.specs.declared.Pass1Step.{Pass1Step}
+use Rattle.pass1_state.specs.declared.Pass1Step.the-variants.{Went, Refused}
+use Rattle.pass2_statement.specs.declared.Pass2State.{Pass2State}
+use Rattle.asm_first_half.specs.Tabled.{Begun}
 use Rattle.asm.specs.declared.Answer.{Answer}
 
 -- the answer in the rules' words
@@ -26,26 +26,20 @@ meant r = record {
 }
 
 -- of an object with these tables and blocks
-abbrev pub accepting : One → Two → Answer
+abbrev pub accepting : Pass1State → Pass2State → Answer
 accepting o t = record { number = 0; start = 0; end = 0; start2 = 0; end2 = 0; blocks = t .blocks; words = t .used; labels = o .labels; relocations = o .relocations }
 
 -- of a refusal
 abbrev pub refusing : (n a e b f : ℕ) → Answer
 refusing n a e b f = record { number = n; start = a; end = e; start2 = b; end2 = f; blocks = 0; words = 0; labels = 0; relocations = 0 }
 
--- 42 comes before all else
+-- a call that is lent a source and buffers for an object
 unfoldable pub called : Buffers → List ℕ → Outcome Object
-called b s = if short b then refuse 42 nowhere else assemble (lentWords (b .words) (b .marks)) s
-
--- the buffers afterwards: an object's layout, or, after a refusal, all zero
-abbrev pub left : Outcome Object → Buffers → Buffers
-left (ok o) b = layout o b
-left (refused r) b = layout nothing b
+called b s = ofBytes b (assemble (lentWords (b .words) (b .marks)) s)
 
 -- what a stage answers of buffers b and leaves in them, where the rule's outcome is o
-pub record Leaves (o : Outcome Object) (b : Buffers) (r : Answer) (b′ : Buffers) : Type 0 where
-  pub answer : meant r ≡ answer o
-  pub buffers : b′ ≡ left o b
+abbrev pub Leaves : Outcome Object → Buffers → Answer → Buffers → Type 0
+Leaves o b r b′ = Makes o b (meant r) b′
 
 abbrev pub Assembled : Buffers → List ℕ → Answer → Buffers → Type 0
 Assembled b s r b′ = Leaves (called b s) b r b′
@@ -55,8 +49,15 @@ abbrev pub calling : Bool → ℕ → List ℕ → Outcome Object
 calling small room s = if small then refuse 42 nowhere else assemble room s
 
 -- the call up to pass two: a source whose tables pass one has left and whose words the lent ones hold, or the call's refusal
-pub record Started (small : Bool) (room : ℕ) (rs qs s : List ℕ) (r : Stepped) : Type 0 where
-  pub long : (o : One) → r ≡ Went o → small ≡ false
-  pub went : (o : One) → r ≡ Went o → Begun rs qs s o
-  pub fits : (o : One) → r ≡ Went o → o .words ≤ room
+pub record Started (small : Bool) (room : ℕ) (rs qs s : List ℕ) (r : Pass1Step) : Type 0 where
+  pub long : (o : Pass1State) → r ≡ Went o → small ≡ false
+  pub went : (o : Pass1State) → r ≡ Went o → Begun rs qs s o
+  pub fits : (o : Pass1State) → r ≡ Went o → o .words ≤ room
   pub stopped : (n a b c d : ℕ) → r ≡ Refused n a b c d → calling small room s ≡ refuse2 n (span a b) (span c d)
+
+-- what an accepted call leaves: a good object in its one layout, valid, with its counts
+pub record AcceptedCall (b : Buffers) (r : Answer) (b′ : Buffers) (o : Object) : Type 0 where
+  pub good : Good o
+  pub laid : b′ ≡ layout o b
+  pub counts : meant r ≡ rule.accepted (countsOf o)
+  pub valid : Valid (countsOf o) b′

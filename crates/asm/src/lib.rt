@@ -1,8 +1,8 @@
 // Assembling: any source to an object in lent buffers, or one refusal and every buffer zero.
-use counter::One;
-use counter::Stepped;
-use emitting::Emitted;
-use emitting::Two;
+use pass1_state::Pass1State;
+use pass1_state::Pass1Step;
+use pass2_statement::Pass2State;
+use pass2_statement::Pass2Step;
 ghost use mathlib.Core.Path.{_≡_};
 ghost use mathlib.Core.Bool.{false};
 ghost use mathlib.Core.List.{List};
@@ -11,9 +11,9 @@ ghost use lib.ListN.{length};
 ghost use Rattle.rules.specs.Base.{ok};
 ghost use Rattle.rules.specs.Statements.{Stmt, statements};
 ghost use Rattle.rules.specs.Buffers.{six, short, lentWords};
-ghost use Rattle.filling.specs.Tables.{seen};
-ghost use Rattle.source_tables.specs.Tabled.{Begun};
-ghost use Rattle.object_writing.specs.Made.{afterTwo};
+ghost use Rattle.pass1_fill.specs.Tables.{seen};
+ghost use Rattle.asm_first_half.specs.Tabled.{Begun};
+ghost use Rattle.asm_second_half.specs.Made.{afterPass2};
 ghost use Rattle.asm.specs.Call.{Leaves, Assembled, Started, accepting, refusing};
 
 // Number 0 is acceptance, with counts; any other is a refusal with its two places, and counts of 0.
@@ -47,7 +47,7 @@ fn refusal(number: u16, start: usize, end: usize, start2: usize, end2: usize) ->
 }
 
 // An object with these tables and blocks.
-fn accepted(o: One, t: Two) -> Answer
+fn accepted(o: Pass1State, t: Pass2State) -> Answer
     ensures { λ r. ⌜ r ≡ accepting o t ⌝ }
 {
     Answer {
@@ -70,22 +70,22 @@ fn first_half(
     room: usize,
     rows: &mut [u32],
     pending: &mut [u32],
-) -> Stepped
+) -> Pass1Step
     requires { ⌜ (4096 ≤ length (now rows)) × (4096 ≤ length (now pending)) ⌝ }
     ensures { λ r. ⌜ Started small room (now (rows .exit)) (now (pending .exit)) (now (src .entry)) r ⌝ }
 {
     if small {
-        return counter::refused(42, 0, 0);
+        return pass1_state::refused(base_refusals::SHORT_BUFFER, 0, 0);
     }
-    let answer = source_tables::source_tables(src, rows, pending);
+    let answer = asm_first_half::source_tables(src, rows, pending);
     match answer {
-        Stepped::Went(o) => {
+        Pass1Step::Went(o) => {
             if room < o.words {
-                return counter::refused(41, 0, 0);
+                return pass1_state::refused(base_refusals::NO_ROOM, 0, 0);
             }
             answer
         }
-        Stepped::Refused {
+        Pass1Step::Refused {
             number: _,
             start: _,
             end: _,
@@ -100,7 +100,7 @@ fn second_half(
     src: &[u8],
     rows: &[u32],
     pending: &[u32],
-    o: One,
+    o: Pass1State,
     blocks: &mut [u16],
     words: &mut [u16],
     marks: &mut [u8],
@@ -109,9 +109,9 @@ fn second_half(
     names: &mut [u8],
 ) -> Answer
     requires { ⌜ Begun (now rows) (now pending) (now src) o × (o .words ≤ lentWords (now words) (now marks)) × (short (six (now blocks) (now words) (now marks) (now labels) (now relocations) (now names)) ≡ false) ⌝ }
-    ensures { λ r. ⌜ ((ss : List Stmt) → statements (now (src .entry)) ≡ ok ss → Leaves (afterTwo ss (seen (now (rows .entry)) (now (pending .entry)) (now (src .entry)) o)) (six (now (blocks .entry)) (now (words .entry)) (now (marks .entry)) (now (labels .entry)) (now (relocations .entry)) (now (names .entry))) r (six (now (blocks .exit)) (now (words .exit)) (now (marks .exit)) (now (labels .exit)) (now (relocations .exit)) (now (names .exit)))) ⌝ }
+    ensures { λ r. ⌜ ((ss : List Stmt) → statements (now (src .entry)) ≡ ok ss → Leaves (afterPass2 ss (seen (now (rows .entry)) (now (pending .entry)) (now (src .entry)) o)) (six (now (blocks .entry)) (now (words .entry)) (now (marks .entry)) (now (labels .entry)) (now (relocations .entry)) (now (names .entry))) r (six (now (blocks .exit)) (now (words .exit)) (now (marks .exit)) (now (labels .exit)) (now (relocations .exit)) (now (names .exit)))) ⌝ }
 {
-    let answer = object_writing::write_object(
+    let answer = asm_second_half::write_object(
         src,
         rows,
         pending,
@@ -124,8 +124,8 @@ fn second_half(
         names,
     );
     match answer {
-        Emitted::Went(t) => accepted(o, t),
-        Emitted::Refused {
+        Pass2Step::Went(t) => accepted(o, t),
+        Pass2Step::Refused {
             number,
             start,
             end,
@@ -151,10 +151,10 @@ pub fn assemble(
 {
     let small = object::is_short(blocks, words, marks, labels, relocations, names);
     let room = object::lent_words(words, marks);
-    let mut rows = [0u32; 4096];
-    let mut pending = [0u32; 4096];
+    let mut rows = [0u32; base_capacities::PASS1_CELLS];
+    let mut pending = [0u32; base_capacities::PASS1_CELLS];
     match first_half(src, small, room, &mut rows, &mut pending) {
-        Stepped::Went(o) => second_half(
+        Pass1Step::Went(o) => second_half(
             src,
             &rows,
             &pending,
@@ -166,7 +166,7 @@ pub fn assemble(
             relocations,
             names,
         ),
-        Stepped::Refused {
+        Pass1Step::Refused {
             number,
             start,
             end,

@@ -11,17 +11,18 @@ use Rattle.rules.specs.Objects.{Object, Name, Counts, lookupLabel}
 use Rattle.rules.specs.Words as R
 use Rattle.rules.specs.Buffers.{Buffers, view, Valid}
 use Rattle.rules.specs.Answers.{Answer, answer, noCounts, numbers}
-use Rattle.token.specs.declared.Next.{Next}
+use Rattle.lex_token.specs.declared.Next.{Next}
 use Rattle.parse.specs.Coded.{codedStatements, sourceStatements}
 use Rattle.parse.specs.declared.Statements.{Statements}
-use Rattle.object.specs.Lent.{Lent, too-short, bad-object, on-object}
+use Rattle.rules.specs.Calls.{OfObject, too-short, bad-object, on-object}
+use Rattle.rules.proofs.Bools.{never}
 use Rattle.list.specs.Call.{Called}
 use Rattle.list.specs.declared.Listed.{Listed}
-use Rattle.lookup.specs.Told.{said, found, Reversed}
-use Rattle.lookup.specs.declared.Said.{Said}
-use Rattle.lookup.specs.declared.Found.{Found}
-use Rattle.lookup.specs.declared.Found.the-variants as find
-use Rattle.walks.proofs.Single.{Single, source-single}
+use Rattle.object_lookup.specs.Told.{said, found, Reversed}
+use Rattle.object_lookup.specs.declared.Said.{Said}
+use Rattle.object_lookup.specs.declared.Found.{Found}
+use Rattle.object_lookup.specs.declared.Found.the-variants as find
+use Rattle.laws.proofs.Single.{Single, source-single}
 use Rattle.asm.specs.Call.{Leaves}
 use Rattle.asm.specs.declared.Answer as asm
 use Rattle.lc3_answers.specs.declared.Reply.{Reply}
@@ -61,7 +62,7 @@ module _ {r : Reply} {out : List ℕ} (p : out ≡ row r) where
     pub list-put : {len : ℕ} {x : List ℕ} {l : Listed} → Called c b len l x → r ≡ reply (listedTold l) → ListCall c b len x out
     list-put {l = l} q e = record { listed = l; called = q; told = put e p }
 
-    pub lookup-put : {m : List ℕ} (s : Said) → Lent c b (ok (lookupLabel (view c b) m)) (said s) → r ≡ reply (saidTold (said s)) → LookupCall c b m out
+    pub lookup-put : {m : List ℕ} (s : Said) → OfObject c b (ok (lookupLabel (view c b) m)) (said s) → r ≡ reply (saidTold (said s)) → LookupCall c b m out
     lookup-put s q e = record { said = said s; lent = q; told = put e p }
 
     pub rev-lookup-put : {a : ℕ} {f : Found} → Reversed c b a f → r ≡ reply (foundTold (b .labels) f) → RevLookupCall c b a out
@@ -72,7 +73,7 @@ abbrev tag : Outcome (Option Name) → ℕ
 tag (ok o) = 0
 tag (refused r) = r .number
 
-valid-of : {c : Counts} {b : Buffers} {rule : Outcome (Option Name)} (k : ℕ) → Lent c b rule (found (b .labels) (b .names) (find.Row k)) → Valid c b
+valid-of : {c : Counts} {b : Buffers} {rule : Outcome (Option Name)} (k : ℕ) → OfObject c b rule (found (b .labels) (b .names) (find.Row k)) → Valid c b
 valid-of k (too-short p e) = absurd (let z = ap tag e in omega arith)
 valid-of k (bad-object p n e) = absurd (let z = ap tag e in omega arith)
 valid-of k (on-object p v e) = v
@@ -86,6 +87,6 @@ row-in {c} {b} {a} f q = record { row = go f q }
         let room = valid-of j (q .name) .labels .room in
         let l = q .row j refl in
         omega arith
-    go find.Nothing q k e = let z : _≡_ {A = ℕ} 0 1 = cc in absurd (omega arith)
-    go find.ShortBuffer q k e = let z : _≡_ {A = ℕ} 0 1 = cc in absurd (omega arith)
-    go find.BadObject q k e = let z : _≡_ {A = ℕ} 0 1 = cc in absurd (omega arith)
+    go find.Nothing q k e = never cc
+    go find.ShortBuffer q k e = never cc
+    go find.BadObject q k e = never cc

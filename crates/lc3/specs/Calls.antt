@@ -8,12 +8,13 @@ use Rattle.rules.specs.Statements.{Stmt}
 use Rattle.rules.specs.Objects.{Lab, Counts, lookupLabel}
 use Rattle.rules.specs.Buffers.{Buffers, view}
 use Rattle.rules.specs.Answers.{Answer, numbers, accepted, noCounts, refusal}
-use Rattle.object.specs.Lent.{Lent, lent-once}
+use Rattle.rules.specs.Calls.{OfObject}
+use Rattle.rules.proofs.Calls.{answered-once}
 use Rattle.list.specs.Call.{Called, one-answer, one-buffer}
 use Rattle.list.specs.declared.Listed.{Listed}
-use Rattle.lookup.specs.Told.{Reversed}
-use Rattle.lookup.specs.declared.Found.{Found}
-use Rattle.lookup.proofs.Once.{found-once}
+use Rattle.object_lookup.specs.Told.{Reversed}
+use Rattle.object_lookup.specs.declared.Found.{Found}
+use Rattle.object_lookup.proofs.Once.{found-once}
 use Rattle.lc3_answers.specs.Told.{listedTold, saidTold, foundTold}
 
 -- all statements of a source, with no counts
@@ -30,7 +31,7 @@ pub record ListCall (c : Counts) (b : Buffers) (len : ℕ) (text out : List ℕ)
 -- what the object says of the name m
 pub record LookupCall (c : Counts) (b : Buffers) (m : List ℕ) (out : List ℕ) : Type 0 where
   pub said : Outcome (Option Lab)
-  pub lent : Lent c b (ok (lookupLabel (view c b) m)) said
+  pub lent : OfObject c b (ok (lookupLabel (view c b) m)) said
   pub told : out ≡ numbers (saidTold said)
 
 -- the label at the address a
@@ -48,7 +49,7 @@ module _ {c : Counts} {b : Buffers} where
   list-text-once p q = one-buffer (p .called) (q .called)
 
   pub lookup-call-once : {m out also : List ℕ} → LookupCall c b m out → LookupCall c b m also → out ≡ also
-  lookup-call-once p q = p .told ∙ (ap (λ (o : Outcome (Option Lab)). numbers (saidTold o)) (lent-once (p .lent) (q .lent)) ∙ sym (q .told))
+  lookup-call-once p q = p .told ∙ (ap (λ (o : Outcome (Option Lab)). numbers (saidTold o)) (answered-once (p .lent) (q .lent)) ∙ sym (q .told))
 
   pub rev-lookup-call-once : {a : ℕ} {out also : List ℕ} → RevLookupCall c b a out → RevLookupCall c b a also → out ≡ also
   rev-lookup-call-once {a} p q =

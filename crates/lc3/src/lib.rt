@@ -6,9 +6,10 @@ ghost use Rattle.rules.specs.Tokens.{nextToken};
 ghost use Rattle.rules.specs.Words.{line};
 ghost use Rattle.rules.specs.Buffers.{six};
 ghost use Rattle.rules.specs.Answers.{numbers, answer};
-ghost use Rattle.token.specs.Coded.{coded};
+ghost use Rattle.lex_token.specs.Coded.{coded};
 ghost use Rattle.parse.specs.Coded.{sourceStatements};
-ghost use Rattle.asm.specs.Call.{called, left};
+ghost use Rattle.rules.specs.Calls.{leftObject};
+ghost use Rattle.asm.specs.Call.{called};
 ghost use Rattle.lc3_answers.specs.Told.{four, nextTold, lineTold};
 ghost use Rattle.lc3.specs.Calls.{checked, ListCall, LookupCall, RevLookupCall};
 
@@ -35,7 +36,7 @@ pub extern "C" fn lc3_disassemble(word: u16, out: &mut [u64; 9])
 {
     lc3_answers::put_answer(
         out,
-        lc3_answers::told_line(words::disassembly::disassemble_line(word)),
+        lc3_answers::told_line(isa::disassembly::disassemble_line(word)),
     );
 }
 
@@ -52,7 +53,7 @@ pub extern "C" fn lc3_assemble(
     out: &mut [u64; 9],
 )
     ensures { λ _. ⌜ now (out .exit) ≡ numbers (answer (called (six (now (blocks .entry)) (now (words .entry)) (now (marks .entry)) (now (labels .entry)) (now (relocations .entry)) (now (names .entry))) (now (src .entry)))) ⌝ }
-    ensures { λ _. ⌜ six (now (blocks .exit)) (now (words .exit)) (now (marks .exit)) (now (labels .exit)) (now (relocations .exit)) (now (names .exit)) ≡ left (called (six (now (blocks .entry)) (now (words .entry)) (now (marks .entry)) (now (labels .entry)) (now (relocations .entry)) (now (names .entry))) (now (src .entry))) (six (now (blocks .entry)) (now (words .entry)) (now (marks .entry)) (now (labels .entry)) (now (relocations .entry)) (now (names .entry))) ⌝ }
+    ensures { λ _. ⌜ six (now (blocks .exit)) (now (words .exit)) (now (marks .exit)) (now (labels .exit)) (now (relocations .exit)) (now (names .exit)) ≡ leftObject (called (six (now (blocks .entry)) (now (words .entry)) (now (marks .entry)) (now (labels .entry)) (now (relocations .entry)) (now (names .entry))) (now (src .entry))) (six (now (blocks .entry)) (now (words .entry)) (now (marks .entry)) (now (labels .entry)) (now (relocations .entry)) (now (names .entry))) ⌝ }
 {
     let a = asm::assemble(src, blocks, words, marks, labels, relocations, names);
     let r = lc3_answers::told_answer(
@@ -121,7 +122,16 @@ pub extern "C" fn lc3_lookup_label(
         labels: n_labels,
         relocations: n_relocations,
     };
-    let said = lookup::lookup_label(c, blocks, words, marks, labels, relocations, names, name);
+    let said = object_lookup::lookup_label(
+        c,
+        blocks,
+        words,
+        marks,
+        labels,
+        relocations,
+        names,
+        name,
+    );
     lc3_answers::put_answer(out, lc3_answers::told_said(said));
 }
 
@@ -149,7 +159,7 @@ pub extern "C" fn lc3_rev_lookup_label(
         labels: n_labels,
         relocations: n_relocations,
     };
-    let found = lookup::rev_lookup_label(
+    let found = object_lookup::rev_lookup_label(
         c,
         blocks,
         words,

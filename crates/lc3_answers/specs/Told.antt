@@ -3,22 +3,22 @@ use Prim.Native.Nat.{ℕ, _+_, _*_, _≤_}
 use mathlib.Core.Path.{_≡_}
 use mathlib.Core.List.{List, [], _∷_}
 use mathlib.Core.Option.{Option, none, some}
-use lib.ListN.{length, getD}
+use lib.ListN.{getD}
 use Rattle.rules.specs.Base.{Span, span, nowhere, Outcome, ok, refused}
 use Rattle.rules.specs.Words.{Operand, register, value, Instr, instruction, filled}
 use Rattle.rules.specs.Words as R
 use Rattle.rules.specs.Objects.{Lab, outer, defined, Counts}
-use Rattle.rules.specs.Answers.{Answer, accepted, noCounts, refusal}
-use Rattle.token.specs.declared.Next.{Next}
-use Rattle.token.specs.declared.Next.the-variants as next
-use Rattle.token.specs.declared.Lexeme.{Lexeme}
-use Rattle.token.specs.Flat.{lexeme, flatToken}
+use Rattle.rules.specs.Answers.{Answer, accepted, refusal}
+use Rattle.lex_token.specs.declared.Next.{Next}
+use Rattle.lex_token.specs.declared.Next.the-variants as next
+use Rattle.lex_token.specs.declared.Lexeme.{Lexeme}
+use Rattle.lex_token.specs.Flat.{lexeme, flatToken}
 use Rattle.parse.specs.declared.Statements.{Statements}
 use Rattle.parse.specs.declared.Statements.the-variants as all
 use Rattle.list.specs.declared.Listed.{Listed}
 use Rattle.list.specs.declared.Listed.the-variants as list
-use Rattle.lookup.specs.declared.Found.{Found}
-use Rattle.lookup.specs.declared.Found.the-variants as find
+use Rattle.object_lookup.specs.declared.Found.{Found}
+use Rattle.object_lookup.specs.declared.Found.the-variants as find
 use Rattle.lc3_answers.specs.declared.Reply.{Reply}
 
 -- an answer as the code holds it, and its numbers in a row

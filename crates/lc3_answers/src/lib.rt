@@ -1,22 +1,22 @@
 // The answers of the calls from other languages, as nine numbers: a number, two spans and four counts.
+use isa::AsmInstr;
+use isa::ImmOrReg;
+use isa::disassembly::Line;
+use lex_reserved::Ident;
+use lex_token::Next;
+use lex_token::Token;
 use list::Listed;
-use lookup::Found;
-use lookup::Said;
+use object_lookup::Found;
+use object_lookup::Said;
 use parse::Statements;
-use reserved::Ident;
-use token::Next;
-use token::Token;
-use words::AsmInstr;
-use words::ImmOrReg;
-use words::disassembly::Line;
 ghost use mathlib.Core.Path.{_≡_};
 ghost use Prim.Native.Nat.{_+_, _*_, _≤_};
 ghost use lib.ListN.{length, getD};
 ghost use Rattle.rules.specs.Base.{span};
-ghost use Rattle.words.specs.Instructions.{meant, operandOf};
-ghost use Rattle.words.specs.Disassembly.{meantLine};
-ghost use Rattle.token.specs.Flat.{lexeme, flatIdent, flatToken};
-ghost use Rattle.lookup.specs.Told.{said};
+ghost use Rattle.isa.specs.Instructions.{meant, operandOf};
+ghost use Rattle.isa.specs.Disassembly.{meantLine};
+ghost use Rattle.lex_token.specs.Flat.{lexeme, flatIdent, flatToken};
+ghost use Rattle.object_lookup.specs.Told.{said};
 ghost use Rattle.lc3_answers.specs.Told.{reply, row, four, answered, counted, refusedAt, tokenTold, nextTold, statementsTold, listedTold, saidTold, RowIn, foundTold, operandTold, instrTold, lineTold};
 
 pub struct Reply {
@@ -182,7 +182,7 @@ pub fn told_next(next: Next) -> Reply
     match next {
         Next::Took { token, start, end } => told_kind(token, start, end),
         Next::End(at) => told_token(10, 0, at, at),
-        Next::Refused { number, start, end } => refused(wide8(number), start, end),
+        Next::Refused { number, start, end } => refused(wide16(number), start, end),
     }
 }
 
@@ -202,7 +202,7 @@ pub fn told_listed(listed: Listed) -> Reply
 {
     match listed {
         Listed::Bytes(n) => accepted(wide(n), 0, 0, 0),
-        Listed::Refused(number) => refused(wide8(number), 0, 0),
+        Listed::Refused(number) => refused(wide16(number), 0, 0),
     }
 }
 

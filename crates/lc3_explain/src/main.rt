@@ -7,9 +7,9 @@ fn main() {
     let size = io::read_full(STDIN_FILENO, &mut source);
     if size == 65536 {
         if io::read_full(STDIN_FILENO, &mut more) == 1 {
-            explaining::print_too_long();
+            view::print_too_long();
             return;
         }
     }
-    explaining::print_source(&source[..size]);
+    view::print_source(&source[..size]);
 }

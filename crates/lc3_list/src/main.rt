@@ -7,9 +7,9 @@ fn main() {
     let size = io::read_full(STDIN_FILENO, &mut source);
     if size == 65536 {
         if io::read_full(STDIN_FILENO, &mut more) == 1 {
-            printing::print_refused(11);
+            list_print::print_refused(11);
             return;
         }
     }
-    printing::print_source(&source[..size]);
+    list_print::print_source(&source[..size]);
 }

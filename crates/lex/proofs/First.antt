@@ -12,15 +12,16 @@ use Rattle.rules.specs.Base.{if_then_else_, within}
 use Rattle.rules.specs.Tokens.{match, blank, digit, letter, space, upper, while, dec, numberAfter, wordAt, directiveAfter, afterHash, afterMinus, afterX, afterR, afterQuote, tokenAt, nextToken}
 use Rattle.rules.proofs.Sizes.{small, while-short}
 use Rattle.rules.proofs.Next.{here, next-end, next-here, here-blank}
-use Rattle.text.specs.Runs.{inClass, from, runEnd}
-use Rattle.text.specs.declared.Class.the-variants as class
-use Rattle.text.proofs.Rest.{from-step}
-use Rattle.text.proofs.RunLaws.{run-in, run-out, run-past, run-stops}
-use Rattle.token.specs.Coded.{marked, codedAs, coded, told}
-use Rattle.token.specs.declared.Token.the-variants.{Directive, Colon, Comma, NewLine}
-use Rattle.token.specs.declared.Next.{Next}
-use Rattle.token.specs.declared.Next.the-variants.{Took, End, Refused}
-use Rattle.token.proofs.NumberTold.{word-end}
+use Rattle.rules.proofs.Bools.{never}
+use Rattle.base_text.specs.Runs.{inClass, from, runEnd}
+use Rattle.base_text.specs.declared.Class.the-variants as class
+use Rattle.base_text.proofs.Rest.{from-step}
+use Rattle.base_text.proofs.RunLaws.{run-in, run-out, run-past, run-stops}
+use Rattle.lex_token.specs.Coded.{marked, codedAs, coded, told}
+use Rattle.lex_token.specs.declared.Token.the-variants.{Directive, Colon, Comma, NewLine}
+use Rattle.lex_token.specs.declared.Next.{Next}
+use Rattle.lex_token.specs.declared.Next.the-variants.{Took, End, Refused}
+use Rattle.lex_token.proofs.NumberTold.{word-end}
 use Rattle.lex.specs.Ways.{afterReturn, afterSemicolon, afterOther}
 
 X-letter : letter 88 ≡ true
@@ -31,8 +32,8 @@ R-letter : letter 82 ≡ true
 unfolding letter
 R-letter = refl
 
-never : {A : Type 0} → true ≡ false → A
-never e = let z : _≡_ {A = ℕ} 0 1 = cc in absurd (omega arith)
+no-way : {A : Type 0} → true ≡ false → A
+no-way e = never cc
 
 -- a letter is no digit, hash or minus
 letter-low : (c : ℕ) → letter c ≡ true → 65 ≤ c
@@ -43,7 +44,7 @@ letter-low c e = go (leb 65 c) refl (leb 97 c) refl (eqb c 95) refl e
     go true a b p u q e = leb-true 65 c a
     go false a true p u q e = let l : 97 ≤ c = leb-true 97 c p in omega arith
     go false a false p true q e = let l : c ≡ 95 = eqb-true c 95 q in omega arith
-    go false a false p false q e = never (sym e)
+    go false a false p false q e = no-way (sym e)
 
 module _ (c : ℕ) (s : List ℕ) where
   module _ (l : letter c ≡ true) where
@@ -76,8 +77,8 @@ module _ (c : ℕ) (s : List ℕ) where
   no-upper k y n = ne-eqb (upper c) k (go (within "a" "z" c) refl)
     where
       go : (b : Bool) → within "a" "z" c ≡ b → (if b then c - 32 else c) ≡ k → ⊥
-      go true e h = never (sym (small c e) ∙ n)
-      go false e h = never (sym (ap letter h ∙ y) ∙ n)
+      go true e h = no-way (sym (small c e) ∙ n)
+      go false e h = no-way (sym (ap letter h ∙ y) ∙ n)
 
   pub digit-first : digit c ≡ true → tokenAt c s ≡ numberAfter 0 dec (c ∷ s)
   unfolding tokenAt if_then_else_
@@ -148,7 +149,7 @@ space-first c s e = go (eqb c 32) refl (eqb c 9) refl e
     go : (a : Bool) → eqb c 32 ≡ a → (b : Bool) → eqb c 9 ≡ b → (a || b) ≡ true → tokenAt c s ≡ match blank (1 + length (while space s))
     go true a b p e = rw (eqb-true c 32 a)
     go false a true p e = rw (eqb-true c 9 p)
-    go false a false p e = never (sym e)
+    go false a false p e = no-way (sym e)
 
 module _ (s : List ℕ) (at : ℕ) where
   one-space : runEnd class.Space s (at + 1) ≡ at + (1 + length (while space (drop (at + 1) s)))

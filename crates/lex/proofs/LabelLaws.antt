@@ -9,10 +9,11 @@ use lib.ListN.{length}
 use Rattle.rules.specs.Base.{if_then_else_, Outcome, ok, refused, span}
 use Rattle.rules.specs.Tokens.{Token, mark, word, upper, tokenIn, nextToken}
 use Rattle.rules.proofs.Next.{next-induction}
-use Rattle.reserved.specs.declared.Ident as reserved
-use Rattle.token.specs.Meant.{part, kindAt, meant}
-use Rattle.token.specs.declared.Token.the-variants.{Ident}
-use Rattle.token.specs.declared.Next.the-variants.{Took}
+use Rattle.rules.proofs.Bools.{never}
+use Rattle.lex_reserved.specs.declared.Ident as reserved
+use Rattle.lex_token.specs.Meant.{part, kindAt, meant}
+use Rattle.lex_token.specs.declared.Token.the-variants.{Ident}
+use Rattle.lex_token.specs.declared.Next.the-variants.{Took}
 use Rattle.lex.specs.Label.{labelText}
 
 module _ (s : List ℕ) where
@@ -39,6 +40,6 @@ module _ (s : List ℕ) where
   unfolding meant kindAt
   label-word at i a e m =
       ⊎-elim
-      (λ p. let z : _≡_ {A = ℕ} 0 1 = cc in absurd (omega arith))
+      (λ p. never cc)
       (λ p. sym m ∙ ap (λ (l : List ℕ). ok (tokenIn (word (map upper l)) (span a e))) (sym (text-part a e (p .0) (p .1))))
       (subst Lies (sym m) (next-lies at))

@@ -3,3 +3,5 @@ pub mod Narrowness
 pub mod Told
 pub mod First
 pub mod LabelLaws
+pub mod Standing
+pub mod Marks

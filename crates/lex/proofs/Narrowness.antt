@@ -1,26 +1,23 @@
 -- What the rules tell of the next token has small numbers: a register's, a reserved word's code and a refusal's fit in a byte. Assumes nothing.
-use Prim.Native.Nat.{ℕ, _+_, _*_, _≤_, _<_}
-use mathlib.Core.Path.{_≡_, refl, sym, subst, ap}
+use Prim.Native.Nat.{ℕ, _+_, _*_, _≤_}
+use mathlib.Core.Path.{_≡_, refl, subst}
 use mathlib.Core.Bool.{Bool, true, false}
 use mathlib.Core.List.{List, [], _∷_}
-use mathlib.Core.Logic.{_⊎_, inl, inr}
+use mathlib.Core.Logic.{inl, inr}
 use native.Mathlib.Omega.{arith}
 use lib.Dec.{leb, ltb}
 use borrow.Author.Tests.{ltb-false}
 use lib.ListN.{length, drop, getD}
-use Rattle.rules.specs.Base.{if_then_else_, Outcome, span, same}
+use Rattle.rules.specs.Base.{if_then_else_, Outcome, same}
 use Rattle.rules.specs.Words.{Row, instructions}
-use Rattle.rules.specs.Tokens.{plus, minus, Kind, number, register, mark, word, directive, text, Found, token, blank, bad, Match, match, Form, while, wordy, value, digits, read, dec, decNeg, hex, hexNeg, reg, numberAfter, wrongAfter, wordAt, directiveAfter, afterHash, afterMinus, afterX, afterR, Quoted, open′, closed, quoted, line, afterQuote, tokenAt, tokenIn, nextToken}
+use Rattle.rules.specs.Tokens.{plus, minus, Kind, number, register, mark, word, directive, text, Found, token, blank, bad, Match, match, Form, while, wordy, value, digits, read, dec, decNeg, hex, hexNeg, reg, numberAfter, wrongAfter, wordAt, directiveAfter, afterHash, afterMinus, afterX, afterR, Quoted, open′, closed, quoted, line, afterQuote, tokenAt, nextToken}
 use Rattle.rules.specs.Tokens as tokens
-use Rattle.rules.proofs.Bools.{either, either-if}
+use Rattle.rules.proofs.Bools.{either}
 use Rattle.rules.proofs.Shown.{Tells}
 use Rattle.rules.proofs.Next.{next-induction}
-use Rattle.reserved.specs.Ident.{placeFrom, identOf}
-use Rattle.reserved.specs.declared.Ident.{Ident}
-use Rattle.reserved.specs.declared.Ident.the-variants.{Reserved, Label}
-use Rattle.token.specs.Coded.{marked, codedAs, coded}
-use Rattle.token.specs.Flat.{flatIdent, flatNext, Narrow}
-use Rattle.token.specs.declared.Lexeme.{Lexeme}
+use Rattle.lex_reserved.specs.Ident.{placeFrom, identOf}
+use Rattle.lex_token.specs.Coded.{marked, codedAs, coded}
+use Rattle.lex_token.specs.Flat.{flatIdent, flatNext, Narrow}
 
 -- a register or a refusal fits in a byte
 abbrev Mild : Found → Type 0

@@ -14,19 +14,20 @@ use Rattle.rules.proofs.While.{yes-cons, no-cons}
 use Rattle.rules.proofs.Sizes.{while-short}
 use Rattle.rules.proofs.Shown.{take-while}
 use Rattle.rules.proofs.Next.{here, next-end, next-here, here-blank}
-use Rattle.text.specs.Runs.{inClass, from, runEnd}
-use Rattle.text.specs.declared.Class.the-variants as class
-use Rattle.text.proofs.Rest.{from-step, begins-at, inside}
-use Rattle.text.proofs.RunLaws.{run-stops}
-use Rattle.reserved.specs.Ident.{identOf}
-use Rattle.literals.specs.Strings.{scan}
-use Rattle.literals.specs.declared.Scanned.the-variants.{Closed, Open}
-use Rattle.literals.proofs.StringRule.{scanned, scan-means}
-use Rattle.token.specs.Coded.{marked, codedAs, coded, told}
-use Rattle.token.specs.declared.Token.the-variants.{Ident, String, NewLine}
-use Rattle.token.specs.declared.Next.{Next}
-use Rattle.token.specs.declared.Next.the-variants.{Took, End, Refused}
-use Rattle.token.proofs.NumberTold.{word-end}
+use Rattle.rules.proofs.Bools.{never}
+use Rattle.base_text.specs.Runs.{inClass, from, runEnd}
+use Rattle.base_text.specs.declared.Class.the-variants as class
+use Rattle.base_text.proofs.Rest.{from-step, begins-at, inside}
+use Rattle.base_text.proofs.RunLaws.{run-stops}
+use Rattle.lex_reserved.specs.Ident.{identOf}
+use Rattle.lex_literals.specs.Strings.{scan}
+use Rattle.lex_literals.specs.declared.Scanned.the-variants.{Closed, Open}
+use Rattle.lex_literals.proofs.StringRule.{scanned, scan-means}
+use Rattle.lex_token.specs.Coded.{marked, codedAs, coded, told}
+use Rattle.lex_token.specs.declared.Token.the-variants.{Ident, String, NewLine}
+use Rattle.lex_token.specs.declared.Next.{Next}
+use Rattle.lex_token.specs.declared.Next.the-variants.{Took, End, Refused}
+use Rattle.lex_token.proofs.NumberTold.{word-end}
 use Rattle.lex.specs.Ways.{afterReturn, afterSemicolon}
 
 pub drop-from : (s : List ℕ) (k i j : ℕ) → i + k ≡ j → drop k (from s i) ≡ from s j
@@ -59,7 +60,7 @@ while-none p (c ∷ l) h = rw (no-cons p c l h)
 
 while-some : (p : ℕ → Bool) (l : List ℕ) → begins p l ≡ true → eqb (length (while p l)) 0 ≡ false
 unfolding begins while
-while-some p [] h = let z : _≡_ {A = ℕ} 0 1 = cc in absurd (omega arith)
+while-some p [] h = never cc
 while-some p (c ∷ l) h = rw (yes-cons p c l h) (ne-eqb (length (c ∷ while p l)) 0 (λ e. omega arith))
 
 -- a word
@@ -206,7 +207,7 @@ module _ (s : List ℕ) (start : ℕ) (h : start < length s) where
     by-closed r f = go (quoted false (line rest)) (p ∙ scan-means false 0 (start + 1) rest)
       where
         go : (q : Quoted) → Closed n e ≡ scanned 0 (start + 1) (length (line rest)) q → r ≡ shown q
-        go open′ z = let y : _≡_ {A = ℕ} 0 1 = cc in absurd (omega arith)
+        go open′ z = never cc
         go (closed t m) z =
             let a : n ≡ 0 + length t = cc in
             let b : e ≡ start + 1 + m = cc in
@@ -228,7 +229,7 @@ module _ (s : List ℕ) (start : ℕ) (h : start < length s) where
       go open′ z =
           let b : e ≡ start + 1 + length (line rest) = cc in
           ap (Refused 7 start) (omega arith)
-      go (closed t m) z = let y : _≡_ {A = ℕ} 0 1 = cc in absurd (omega arith)
+      go (closed t m) z = never cc
 
   -- a comment
   module _ {e : ℕ} (p : e ≡ runEnd class.Line s (start + 1)) where

@@ -4,7 +4,7 @@ use mathlib.Core.List.{List, []}
 use lib.Dec.{leb}
 use lib.ListN.{length}
 use Rattle.rules.specs.Base.{if_then_else_}
-use Rattle.token.specs.Meant.{part}
+use Rattle.lex_token.specs.Meant.{part}
 
 -- the bytes from a up to e; none where these places are not in the source
 unfoldable pub labelText : List ℕ → (a e : ℕ) → List ℕ

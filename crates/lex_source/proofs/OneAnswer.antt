@@ -3,24 +3,24 @@ use Prim.Native.Nat.{ℕ}
 use mathlib.Core.Path.{_≡_, refl, sym, _∙_, ap}
 use mathlib.Core.Bool.{Bool, false}
 use mathlib.Core.List.{List, map}
-use native.Mathlib.Omega.{arith}
 use lib.ListN.{getD}
 use Rattle.rules.specs.Base.{Outcome, ok, refused, Refusal, same, verdict}
 use Rattle.rules.specs.Tokens.{digit, letter, wordy, space, upper, value, Match, nextToken, lexed}
-use Rattle.text.specs.Runs.{inClass, from, runEnd}
-use Rattle.text.specs.Names.{ordered}
-use Rattle.text.specs.declared.Class.{Class}
-use Rattle.text.specs.declared.Order.{Order}
-use Rattle.reserved.specs.Ident.{identOf}
-use Rattle.reserved.specs.declared.Ident.{Ident}
-use Rattle.literals.specs.Numbers.{numberFrom}
-use Rattle.literals.specs.Strings.{scan, charAt}
-use Rattle.literals.specs.declared.Reading.{Reading}
-use Rattle.literals.specs.declared.Scanned.{Scanned}
-use Rattle.literals.specs.declared.StringChar.{StringChar}
-use Rattle.token.specs.Coded.{coded}
-use Rattle.token.specs.Coded as Coded
-use Rattle.token.specs.declared.Next.{Next}
+use Rattle.rules.proofs.Bools.{never}
+use Rattle.base_text.specs.Runs.{inClass, from, runEnd}
+use Rattle.base_text.specs.Names.{ordered}
+use Rattle.base_text.specs.declared.Class.{Class}
+use Rattle.base_text.specs.declared.Order.{Order}
+use Rattle.lex_reserved.specs.Ident.{identOf}
+use Rattle.lex_reserved.specs.declared.Ident.{Ident}
+use Rattle.lex_literals.specs.Numbers.{numberFrom}
+use Rattle.lex_literals.specs.Strings.{scan, charAt}
+use Rattle.lex_literals.specs.declared.Reading.{Reading}
+use Rattle.lex_literals.specs.declared.Scanned.{Scanned}
+use Rattle.lex_literals.specs.declared.StringChar.{StringChar}
+use Rattle.lex_token.specs.Coded.{coded}
+use Rattle.lex_token.specs.Coded as Coded
+use Rattle.lex_token.specs.declared.Next.{Next}
 use Rattle.lex.specs.Label.{labelText}
 use Rattle.lex_source.specs.Lexed.{meantLexed}
 use Rattle.lex_source.specs.declared.Lexed.{Lexed}
@@ -104,8 +104,8 @@ told f (refused r) = f r
 meant-one : (r r′ : Lexed) → meantLexed r ≡ meantLexed r′ → r ≡ r′
 unfolding meantLexed
 meant-one Clean Clean e = refl
-meant-one Clean (Fault n a e) p = let z : _≡_ {A = ℕ} 0 1 = cc in absurd (omega arith)
-meant-one (Fault n a e) Clean p = let z : _≡_ {A = ℕ} 0 1 = cc in absurd (omega arith)
+meant-one Clean (Fault n a e) p = never cc
+meant-one (Fault n a e) Clean p = never cc
 meant-one (Fault n a e) (Fault m b f) p =
     let number : n ≡ m = ap (told (λ r. r .number)) p in
     let start : a ≡ b = ap (told (λ r. r .first .start)) p in

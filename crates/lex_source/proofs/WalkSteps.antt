@@ -13,14 +13,15 @@ use lib.Seq.{length-take-le, getD-take, take-length}
 use Rattle.rules.specs.Base.{Outcome, ok, refuse, span}
 use Rattle.rules.specs.Tokens.{mark, nextToken, ascii}
 use Rattle.rules.proofs.Walk.{tokensOn, onward, tokens-end, tokens-onward, Moves, next-moves, wholeOn, ascii-low, ascii-high}
-use Rattle.text.specs.Runs.{inClass, runEnd}
-use Rattle.text.specs.declared.Class.the-variants as class
-use Rattle.text.proofs.RunLaws.{run-in, run-out, run-past}
-use Rattle.token.specs.Meant.{kindAt, meant}
-use Rattle.token.specs.declared.Token.{Token}
-use Rattle.token.specs.declared.Token.the-variants.{Unsigned, Signed, Reg, Ident, Directive, String, Colon, Comma, NewLine}
-use Rattle.token.specs.declared.Next.{Next}
-use Rattle.token.specs.declared.Next.the-variants.{Took, End, Refused}
+use Rattle.rules.proofs.Bools.{never}
+use Rattle.base_text.specs.Runs.{inClass, runEnd}
+use Rattle.base_text.specs.declared.Class.the-variants as class
+use Rattle.base_text.proofs.RunLaws.{run-in, run-out, run-past}
+use Rattle.lex_token.specs.Meant.{kindAt, meant}
+use Rattle.lex_token.specs.declared.Token.{Token}
+use Rattle.lex_token.specs.declared.Token.the-variants.{Unsigned, Signed, Reg, Ident, Directive, String, Colon, Comma, NewLine}
+use Rattle.lex_token.specs.declared.Next.{Next}
+use Rattle.lex_token.specs.declared.Next.the-variants.{Took, End, Refused}
 use Rattle.lex_source.specs.Lexed.{meantLexed, unlessHigh}
 use Rattle.lex_source.specs.declared.Lexed.the-variants.{Clean, Fault}
 
@@ -70,12 +71,12 @@ module _ (s p : List ℕ) (e : ℕ) (q : p ≡ take e s) (k : e ≤ length s) wh
 -- a token's kind is not the end of the source
 kind-token : (s : List ℕ) (a e : ℕ) (t : Token) → kindAt s a e t ≡ mark 0 → ⊥
 unfolding kindAt
-kind-token s a e (Unsigned n) p = let z : _≡_ {A = ℕ} 0 1 = cc in omega arith
-kind-token s a e (Signed n) p = let z : _≡_ {A = ℕ} 0 1 = cc in omega arith
-kind-token s a e (Reg n) p = let z : _≡_ {A = ℕ} 0 1 = cc in omega arith
-kind-token s a e (Ident i) p = let z : _≡_ {A = ℕ} 0 1 = cc in omega arith
-kind-token s a e Directive p = let z : _≡_ {A = ℕ} 0 1 = cc in omega arith
-kind-token s a e String p = let z : _≡_ {A = ℕ} 0 1 = cc in omega arith
+kind-token s a e (Unsigned n) p = never cc
+kind-token s a e (Signed n) p = never cc
+kind-token s a e (Reg n) p = never cc
+kind-token s a e (Ident i) p = never cc
+kind-token s a e Directive p = never cc
+kind-token s a e String p = never cc
 kind-token s a e Colon p = let z : _≡_ {A = ℕ} 58 0 = cc in omega arith
 kind-token s a e Comma p = let z : _≡_ {A = ℕ} 44 0 = cc in omega arith
 kind-token s a e NewLine p = let z : _≡_ {A = ℕ} 10 0 = cc in omega arith

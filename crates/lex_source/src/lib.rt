@@ -5,14 +5,14 @@ ghost use lib.ListN.{length};
 ghost use Rattle.rules.specs.Base.{verdict};
 ghost use Rattle.rules.specs.Tokens.{lexed};
 ghost use Rattle.lex_source.specs.Lexed.{meantLexed, unlessHigh};
-use text::Class;
-use token::Next;
+use base_text::Class;
+use lex_token::Next;
 
 // Acceptance, or a refusal with its number and place.
 pub enum Lexed {
     Clean,
     Fault {
-        number: u8,
+        number: u16,
         start: usize,
         end: usize,
     },
@@ -23,10 +23,10 @@ fn unless_high(src: &[u8], at: usize, answer: Lexed) -> Lexed
     requires { ⌜ at ≤ length (now src) ⌝ }
     ensures { λ r. ⌜ meantLexed r ≡ unlessHigh (now (src .entry)) at (meantLexed answer) ⌝ }
 {
-    let high = text::run_end(src, at, Class::Ascii);
+    let high = base_text::run_end(src, at, Class::Ascii);
     if high < src.len() {
         return Lexed::Fault {
-            number: 12,
+            number: base_refusals::NON_ASCII,
             start: high,
             end: high + 1,
         };
@@ -38,9 +38,9 @@ fn unless_high(src: &[u8], at: usize, answer: Lexed) -> Lexed
 pub fn first_refusal(src: &[u8]) -> Lexed
     ensures { λ r. ⌜ meantLexed r ≡ verdict (lexed (now (src .entry))) ⌝ }
 {
-    if 262144 < src.len() {
+    if base_capacities::SOURCE_BYTES < src.len() {
         return Lexed::Fault {
-            number: 11,
+            number: base_refusals::SOURCE_TOO_LONG,
             start: 0,
             end: src.len(),
         };
@@ -54,10 +54,10 @@ pub fn first_refusal(src: &[u8]) -> Lexed
                 start: _,
                 end,
             } => {
-                let high = text::run_end(&src[0..end], at, Class::Ascii);
+                let high = base_text::run_end(&src[0..end], at, Class::Ascii);
                 if high < end {
                     return Lexed::Fault {
-                        number: 12,
+                        number: base_refusals::NON_ASCII,
                         start: high,
                         end: high + 1,
                     };

@@ -1,22 +1,21 @@
 -- How long a listing is. Assumes nothing.
 use Prim.Native.Nat.{ℕ, zero, suc, _+_, _-_, _*_, _≤_, _<_}
-use mathlib.Core.Path.{_≡_, refl, sym, _∙_, ap}
-use mathlib.Core.Option.{some}
+use mathlib.Core.Path.{_≡_, refl, _∙_, ap}
 use mathlib.Core.List.{List, [], _∷_, _++_, flatMap}
 use native.Mathlib.Omega.{arith}
-use lib.ListN.{length, take, drop, getD, length-append, length-take, length-drop}
+use lib.ListN.{length, drop, length-append, length-drop}
 use lib.Seq.{length-take-le}
 use Rattle.rules.specs.Base.{bytes}
-use Rattle.rules.specs.Objects.{Cell, unset, word, Counts, Object}
-use Rattle.rules.specs.Buffers.{Buffers, tab, carve, sumOf, headRow, cellRow, viewBlocks, viewLabels, viewRelocs, view, nameRow, BlocksOk, Valid}
+use Rattle.rules.specs.Objects.{Cell, unset, word, Counts}
+use Rattle.rules.specs.Buffers.{Buffers, tab, sumOf, headRow, cellRow, viewBlocks, viewLabels, viewRelocs, view, BlocksOk, Valid}
 use Rattle.rules.specs.Listing.{hex4, lf, cellText, wordLines, blockLines, labelLine, relocLine, listing}
 use Rattle.rules.proofs.Rows.{length-tab}
 use Rattle.rules.proofs.Sound.{blocks-good}
-use Rattle.listing_lines.proofs.Appending.{rows-suc}
-use Rattle.listing.specs.Low.{RelocsLow, RelocsNamed}
-use Rattle.listing.specs.Sizes.{SizedAll}
-use Rattle.listing.proofs.Blocks.{blockRow, carve-tab, sum-grows}
-use Rattle.listing.proofs.Sizes.{label-short}
+use Rattle.list_lines.proofs.Appending.{rows-suc}
+use Rattle.list_sections.specs.Low.{RelocsLow, RelocsNamed}
+use Rattle.list_sections.specs.Sizes.{SizedAll}
+use Rattle.list_sections.proofs.Blocks.{blockRow, carve-tab, sum-grows}
+use Rattle.list_sections.proofs.Sizes.{label-short}
 
 hex-size : (v : ℕ) → length (hex4 v) ≡ 4
 unfolding hex4

@@ -1,4 +1,9 @@
 // The listing of a lent object, as a call: 42, 43, then 51 exactly when the bytes do not fit.
+use base_refusals::BAD_OBJECT;
+use base_refusals::NO_WRITE_ROOM;
+use base_refusals::SHORT_BUFFER;
+use list_lines::BLOCK_LINE_BYTES;
+use list_lines::WORD_LINE_BYTES;
 use object::Counts;
 use object_check::Checked;
 ghost use mathlib.Core.Path.{_≡_};
@@ -11,7 +16,7 @@ ghost use Rattle.list.specs.Call.{Written, Called};
 // How many bytes the listing has, or the number of the refusal: 42, 43 or 51. None of these has a place.
 pub enum Listed {
     Bytes(usize),
-    Refused(u8),
+    Refused(u16),
 }
 
 // How long the listing of a valid object is.
@@ -29,9 +34,9 @@ fn listing_size(
 {
     let l = c.labels;
     let n = c.relocations;
-    let a = listing::labels_size(labels, names, l);
-    let b = listing::relocations_size(relocations, labels, names, n);
-    c.blocks * 16 + c.words * 10 + a + b
+    let a = list_sections::labels_size(labels, names, l);
+    let b = list_sections::relocations_size(relocations, labels, names, n);
+    c.blocks * BLOCK_LINE_BYTES + c.words * WORD_LINE_BYTES + a + b
 }
 
 // The listing of a valid object, into a buffer of zeros.
@@ -51,15 +56,15 @@ fn list_object(
 {
     let size = listing_size(c, labels, relocations, names, blocks, words, marks);
     if out.len() < size {
-        return Listed::Refused(51);
+        return Listed::Refused(NO_WRITE_ROOM);
     }
     let b = c.blocks;
     let w = c.words;
     let l = c.labels;
     let n = c.relocations;
-    let first = listing::put_blocks(out, 0, blocks, b, words, marks, w);
-    let second = listing::put_labels(out, first, labels, names, l);
-    let end = listing::put_relocations(out, second, relocations, labels, names, n);
+    let first = list_sections::put_blocks(out, 0, blocks, b, words, marks, w);
+    let second = list_sections::put_labels(out, first, labels, names, l);
+    let end = list_sections::put_relocations(out, second, relocations, labels, names, n);
     Listed::Bytes(end)
 }
 
@@ -76,10 +81,10 @@ pub fn list(
 ) -> Listed
     ensures { λ r. ⌜ Called (counts c) (six (now (blocks .entry)) (now (words .entry)) (now (marks .entry)) (now (labels .entry)) (now (relocations .entry)) (now (names .entry))) (length (now (out .entry))) r (now (out .exit)) ⌝ }
 {
-    buffers::zero_u8(out);
+    base_buffers::zero_u8(out);
     match object_check::check_object(c, blocks, words, marks, labels, relocations, names) {
         Checked::Object => list_object(c, blocks, words, marks, labels, relocations, names, out),
-        Checked::ShortBuffer => Listed::Refused(42),
-        Checked::BadObject => Listed::Refused(43),
+        Checked::ShortBuffer => Listed::Refused(SHORT_BUFFER),
+        Checked::BadObject => Listed::Refused(BAD_OBJECT),
     }
 }

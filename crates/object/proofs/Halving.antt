@@ -1,18 +1,18 @@
 -- What the halving search of a name among label rows keeps. Assumes nothing.
-use mathlib.Core.Path.{_≡_, refl, sym, _∙_, ap}
+use mathlib.Core.Path.{_≡_}
 use mathlib.Core.List.{List}
-use Prim.Native.Nat.{ℕ, zero, suc, _+_, _-_, _*_, _/_, _≤_, _<_}
+use Prim.Native.Nat.{ℕ, _+_, _-_, _/_, _≤_, _<_}
 use native.Mathlib.Nat.{not-suc-le-zero}
 use native.Mathlib.Decide.{decLt}
 use native.Mathlib.Omega.{arith}
 use Rattle.rules.specs.Tables.{Before, before-trans, nameOrder}
 use Rattle.rules.specs.Objects.{Name}
 use Rattle.rules.proofs.Rows.{up-lt}
-use Rattle.text.specs.Names.{ordered}
-use Rattle.text.specs.declared.Order.{Order}
-use Rattle.text.specs.declared.Order.the-variants.{Less, Same, Greater}
+use Rattle.rules.proofs.Bools.{never}
+use Rattle.base_text.specs.Names.{ordered}
+use Rattle.base_text.specs.declared.Order.{Order}
+use Rattle.base_text.specs.declared.Order.the-variants.{Less, Same, Greater}
 use Rattle.object.specs.Slots.{upperName, upperRow, Rising, Slotted}
-use Rattle.object.specs.declared.Slot.{Slot}
 use Rattle.object.specs.declared.Slot.the-variants.{Taken, Free}
 use Rattle.object.proofs.Order.{is-less, is-same, is-greater}
 
@@ -55,14 +55,14 @@ module _ {ls ns : List ℕ} {n lo hi : ℕ} {x : Name} {r : Order} (v : Rising l
   pub slot-hit : r ≡ Same → Slotted ls ns n x (Taken (lo + (hi - lo) / 2))
   slot-hit q = record {
     taken = λ k p. (let w : lo + (hi - lo) / 2 ≡ k = cc in (omega (arith, t .within), rw w at (is-same (upperName ls ns (lo + (hi - lo) / 2)) x e q)));
-    within = λ p z. (let y : _≡_ {A = ℕ} 0 1 = cc in absurd (omega arith));
-    below = λ p z. (let y : _≡_ {A = ℕ} 0 1 = cc in absurd (omega arith));
-    above = λ p z. (let y : _≡_ {A = ℕ} 0 1 = cc in absurd (omega arith));
+    within = λ p z. (never cc);
+    below = λ p z. (never cc);
+    above = λ p z. (never cc);
   }
 
 pub slot-free : {ls ns : List ℕ} {n lo hi : ℕ} {x : Name} → Halving ls ns n x lo hi → hi ≤ lo → Slotted ls ns n x (Free lo)
 slot-free {ls} {ns} {n} {lo} {hi} {x} t l = record {
-  taken = λ k p. (let y : _≡_ {A = ℕ} 0 1 = cc in absurd (omega arith));
+  taken = λ k p. (never cc);
   within = λ p z. (let w : lo ≡ p = cc in omega (arith, t .within, t .order));
   below = λ p z k h. (let w : lo ≡ p = cc in t .below k (omega arith));
   above = λ p z k h m. (let w : lo ≡ p = cc in t .above k (omega arith) m);

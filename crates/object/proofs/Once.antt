@@ -1,13 +1,14 @@
 -- Two answers that a contract of this crate allows are equal. Assumes nothing.
 use mathlib.Core.Path.{_≡_, refl, sym, _∙_, ap}
 use mathlib.Core.List.{List}
-use Prim.Native.Nat.{ℕ, _≤_, _<_}
+use Prim.Native.Nat.{ℕ, _<_}
 use native.Mathlib.Decide.{decLt}
 use native.Mathlib.Omega.{arith}
-use Rattle.rules.specs.Tables.{Before, before-irr, before-trans, nameOrder}
-use Rattle.rules.specs.Objects.{Lab, outer, defined, Name}
+use Rattle.rules.specs.Tables.{before-irr, before-trans, nameOrder}
+use Rattle.rules.specs.Objects.{Name}
 use Rattle.rules.proofs.Tables.{lt-ne}
 use Rattle.rules.proofs.Rows.{up-lt}
+use Rattle.rules.proofs.Bools.{never}
 use Rattle.object.specs.Meaning.{lab}
 use Rattle.object.specs.Slots.{upperName, upperRow, Rising, Slotted}
 use Rattle.object.specs.declared.Label.{Label}
@@ -18,8 +19,8 @@ use Rattle.object.specs.declared.Slot.the-variants.{Taken, Free}
 -- of `label_at`
 pub label-once : (r s : Label) → lab r ≡ lab s → r ≡ s
 label-once (Defined a) (Defined b) e = let q : a ≡ b = cc in ap Defined q
-label-once (Defined a) External e = let z : _≡_ {A = ℕ} 0 1 = cc in absurd (omega arith)
-label-once External (Defined b) e = let z : _≡_ {A = ℕ} 0 1 = cc in absurd (omega arith)
+label-once (Defined a) External e = never cc
+label-once External (Defined b) e = never cc
 label-once External External e = refl
 
 module _ {ls ns : List ℕ} {n : ℕ} {x : Name} (v : Rising ls ns n) where

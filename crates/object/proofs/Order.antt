@@ -1,17 +1,17 @@
 -- What the comparison of two names says of their order. Assumes nothing.
 use mathlib.Core.Path.{_≡_, refl, sym, _∙_}
 use mathlib.Core.Bool.{Bool, true, false}
-use mathlib.Core.Logic.{_⊎_, inl, inr}
-use mathlib.Core.List.{List, [], _∷_, map}
+use mathlib.Core.Logic.{inl, inr}
+use mathlib.Core.List.{List, [], _∷_}
 use Prim.Native.Nat.{ℕ}
 use native.Mathlib.Omega.{arith}
 use lib.Dec.{ltb}
 use borrow.Author.Tests.{ltb-true, ltb-false}
 use Rattle.rules.specs.Base.{if_then_else_}
 use Rattle.rules.specs.Tables.{Before}
-use Rattle.text.specs.Names.{ordered}
-use Rattle.text.specs.declared.Order.{Order}
-use Rattle.text.specs.declared.Order.the-variants.{Less, Same, Greater}
+use Rattle.base_text.specs.Names.{ordered}
+use Rattle.base_text.specs.declared.Order.{Order}
+use Rattle.base_text.specs.declared.Order.the-variants.{Less, Same, Greater}
 
 -- what each answer of the comparison says
 abbrev pub Meaning : List ℕ → List ℕ → Order → Type 0

@@ -1,6 +1,5 @@
 -- The part of the name bytes that a row says, and what the row says. Assumes nothing.
 use mathlib.Core.Path.{_≡_, refl, sym, _∙_, ap}
-use mathlib.Core.Bool.{Bool, true, false}
 use mathlib.Core.List.{List, []}
 use Prim.Native.Nat.{ℕ, zero, suc, _+_, _-_, _*_, _/_, _≤_, _<_}
 use native.Mathlib.Nat.{add-sub-cancel-left}
@@ -10,7 +9,7 @@ use lib.Seq.{take-all}
 use borrow.Author.Tests.{lt-ltb, le-ltb}
 use Rattle.rules.specs.Base.{if_then_else_}
 use Rattle.rules.specs.Objects.{Lab, outer, defined}
-use Rattle.rules.specs.Buffers.{least, labFrom, labRow, nameRow}
+use Rattle.rules.specs.Buffers.{least, labFrom, nameRow}
 
 -- no row, so no name
 pub name-none : (k : ℕ) (ls ns : List ℕ) → length ls / 4 ≤ k → take (0 - 0) (drop 0 ns) ≡ nameRow ls ns k

@@ -2,4 +2,3 @@
 pub mod Meaning
 pub mod Decides
 pub mod Slots
-pub mod Lent

@@ -5,10 +5,31 @@ ghost use Prim.Native.Nat.{_+_, _*_, _≤_};
 ghost use lib.ListN.{length};
 ghost use Rattle.rules.specs.Tokens.{upper};
 ghost use Rattle.rules.specs.Buffers.{six, short, least, lentWords, nameRow, labRow};
-ghost use Rattle.text.specs.Names.{ordered};
+ghost use Rattle.base_text.specs.Names.{ordered};
 ghost use Rattle.object.specs.Meaning.{lab};
 ghost use Rattle.object.specs.Slots.{upperName, Rising, Slotted};
-use text::Order;
+use base_capacities::BLOCK_CELLS;
+use base_capacities::BLOCKS;
+use base_capacities::DEFINED;
+use base_capacities::LABEL_CELLS;
+use base_capacities::LABEL_FLAG;
+use base_capacities::LABELS;
+use base_capacities::NAME_BYTES;
+use base_capacities::NAME_LENGTH;
+use base_capacities::NAME_START;
+use base_capacities::RELOCATION_CELLS;
+use base_capacities::RELOCATIONS;
+use base_capacities::WORDS;
+use base_text::Order;
+
+// The least lengths of the tables and of the name buffer: room for full capacities.
+const BLOCK_ROOM: usize = BLOCKS * BLOCK_CELLS;
+
+const LABEL_ROOM: usize = LABELS * LABEL_CELLS;
+
+const RELOCATION_ROOM: usize = RELOCATIONS * RELOCATION_CELLS;
+
+const NAME_ROOM: usize = LABELS * NAME_BYTES;
 
 // Counts of blocks, words, labels and relocations. What stands in the six lent buffers up to these counts is the object.
 pub struct Counts {
@@ -41,10 +62,10 @@ pub fn is_short(
 ) -> bool
     ensures { λ r. ⌜ r ≡ short (six (now (blocks .entry)) (now (words .entry)) (now (marks .entry)) (now (labels .entry)) (now (relocations .entry)) (now (names .entry))) ⌝ }
 {
-    (blocks.len() < 128)
-        | (labels.len() < 4096)
-        | (relocations.len() < 2048)
-        | (names.len() < 65536)
+    (blocks.len() < BLOCK_ROOM)
+        | (labels.len() < LABEL_ROOM)
+        | (relocations.len() < RELOCATION_ROOM)
+        | (names.len() < NAME_ROOM)
 }
 
 fn lesser(m: usize, n: usize) -> usize
@@ -56,11 +77,11 @@ fn lesser(m: usize, n: usize) -> usize
     n
 }
 
-// The lent words: the least of the word buffer, its set marks and 65,024.
+// The lent words: the least of the word buffer, its set marks and WORDS.
 pub fn lent_words(words: &[u16], marks: &[u8]) -> usize
     ensures { λ r. ⌜ r ≡ lentWords (now (words .entry)) (now (marks .entry)) ⌝ }
 {
-    lesser(lesser(words.len(), marks.len()), 65024)
+    lesser(lesser(words.len(), marks.len()), WORDS)
 }
 
 fn wide(x: u32) -> usize
@@ -73,12 +94,12 @@ fn wide(x: u32) -> usize
 pub fn label_name<'a>(labels: &[u32], names: &'a [u8], k: usize) -> &'a [u8]
     ensures { λ r. ⌜ now r ≡ nameRow (now (labels .entry)) (now (names .entry)) k ⌝ }
 {
-    if labels.len() / 4 <= k {
+    if labels.len() / LABEL_CELLS <= k {
         return &names[0..0];
     }
-    let i = k * 4;
-    let start = wide(labels[i + 2]);
-    let size = wide(labels[i + 3]);
+    let i = k * LABEL_CELLS;
+    let start = wide(labels[i + NAME_START]);
+    let size = wide(labels[i + NAME_LENGTH]);
     if names.len() <= start {
         return &names[0..0];
     }
@@ -93,8 +114,8 @@ pub fn label_at(labels: &[u32], k: usize) -> Label
     requires { ⌜ k * 4 + 4 ≤ length (now labels) ⌝ }
     ensures { λ r. ⌜ lab r ≡ labRow (now (labels .entry)) k ⌝ }
 {
-    let i = k * 4;
-    if labels[i + 1] == 0 {
+    let i = k * LABEL_CELLS;
+    if labels[i + LABEL_FLAG] == DEFINED {
         return Label::Defined(labels[i]);
     }
     Label::External
@@ -104,7 +125,7 @@ pub fn label_at(labels: &[u32], k: usize) -> Label
 pub fn compare_row(labels: &[u32], names: &[u8], k: usize, name: &[u8]) -> Order
     ensures { λ r. ⌜ r ≡ ordered (upperName (now (labels .entry)) (now (names .entry)) k) (map upper (now (name .entry))) ⌝ }
 {
-    text::compare_names(label_name(labels, names, k), name)
+    base_text::compare_names(label_name(labels, names, k), name)
 }
 
 // The row of a name among n rows that rise by name in upper case, by halving.

@@ -4,12 +4,12 @@ use mathlib.Core.Bool.{Bool, true, false}
 use mathlib.Core.List.{List}
 use Prim.Native.Nat.{ℕ}
 use native.Mathlib.Omega.{arith}
-use Rattle.rules.specs.Base.{Outcome, ok, refused, refuse, nowhere}
+use Rattle.rules.specs.Base.{Outcome, ok, refuse, nowhere}
 use Rattle.rules.specs.Objects.{Counts}
 use Rattle.rules.specs.Buffers.{Buffers, short, BlocksOk, WordsOk, LabelsOk, RelocsOk, Valid}
-use Rattle.object.specs.Decides.{Decides, decides-yes, decides-no}
-use Rattle.object.specs.Lent.{Lent, too-short, bad-object, on-object}
-use Rattle.object_relocations.specs.Ground.{Ground}
+use Rattle.object.specs.Decides.{Decides, decides-no}
+use Rattle.rules.specs.Calls.{OfObject, too-short, bad-object, on-object}
+use Rattle.object_check_relocations.specs.Ground.{Ground}
 use Rattle.object_check.specs.Checked.{outcome, numberOf}
 use Rattle.object_check.specs.declared.Checked.{Checked}
 use Rattle.object_check.specs.declared.Checked.the-variants.{Object, ShortBuffer, BadObject}
@@ -38,23 +38,23 @@ grounds p x q y l z = record { blocks = p .yes x; words = q .yes y; labels = l .
 
 -- 42, then 43
 module _ (c : Counts) (b : Buffers) {t : Bool} (e : t ≡ short b) where
-  pub is-short : t ≡ true → Lent c b (ok tt) (outcome ShortBuffer)
+  pub is-short : t ≡ true → OfObject c b (ok tt) (outcome ShortBuffer)
   is-short q = too-short (rw e at q) refl
 
   module _ {r : Bool} (d : Decides (Valid c b) r) (n : t ≡ false) where
-    pub is-good : r ≡ true → Lent c b (ok tt) (outcome Object)
+    pub is-good : r ≡ true → OfObject c b (ok tt) (outcome Object)
     is-good q = on-object (rw e at n) (d .yes q) refl
 
-    pub is-bad : r ≡ false → Lent c b (ok tt) (outcome BadObject)
+    pub is-bad : r ≡ false → OfObject c b (ok tt) (outcome BadObject)
     is-bad q = bad-object (rw e at n) (d .no q) refl
 
 -- WHAT A CALL LEARNS FROM THE CHECK
 
-module _ {c : Counts} {b : Buffers} (r : Checked) (l : Lent c b (ok tt) (outcome r)) where
+module _ {c : Counts} {b : Buffers} (r : Checked) (l : OfObject c b (ok tt) (outcome r)) where
   pub checked-valid : r ≡ Object → Valid c b
   checked-valid q = go l
     where
-      go : Lent c b (ok tt) (outcome r) → Valid c b
+      go : OfObject c b (ok tt) (outcome r) → Valid c b
       go (too-short p e) = absurd (let z = ap numberOf (sym (ap outcome q) ∙ e) in omega arith)
       go (bad-object p n e) = absurd (let z = ap numberOf (sym (ap outcome q) ∙ e) in omega arith)
       go (on-object p v e) = v
@@ -62,27 +62,27 @@ module _ {c : Counts} {b : Buffers} (r : Checked) (l : Lent c b (ok tt) (outcome
   pub checked-long : r ≡ Object → short b ≡ false
   checked-long q = go l
     where
-      go : Lent c b (ok tt) (outcome r) → short b ≡ false
+      go : OfObject c b (ok tt) (outcome r) → short b ≡ false
       go (too-short p e) = absurd (let z = ap numberOf (sym (ap outcome q) ∙ e) in omega arith)
       go (bad-object p n e) = p
       go (on-object p v e) = p
 
   -- a call that goes on with the object, and one that hands on the refusal
-  pub goes-on : {A : Type 0} {rule x : Outcome A} → r ≡ Object → x ≡ rule → Lent c b rule x
+  pub goes-on : {A : Type 0} {rule x : Outcome A} → r ≡ Object → x ≡ rule → OfObject c b rule x
   goes-on q e = on-object (checked-long q) (checked-valid q) e
 
-  pub refuses-short : {A : Type 0} {rule x : Outcome A} → r ≡ ShortBuffer → x ≡ refuse 42 nowhere → Lent c b rule x
+  pub refuses-short : {A : Type 0} {rule x : Outcome A} → r ≡ ShortBuffer → x ≡ refuse 42 nowhere → OfObject c b rule x
   refuses-short {A} {rule} {x} q d = go l
     where
-      go : Lent c b (ok tt) (outcome r) → Lent c b rule x
+      go : OfObject c b (ok tt) (outcome r) → OfObject c b rule x
       go (too-short p e) = too-short p d
       go (bad-object p n e) = absurd (let z = ap numberOf (sym (ap outcome q) ∙ e) in omega arith)
       go (on-object p v e) = absurd (let z = ap numberOf (sym (ap outcome q) ∙ e) in omega arith)
 
-  pub refuses-bad : {A : Type 0} {rule x : Outcome A} → r ≡ BadObject → x ≡ refuse 43 nowhere → Lent c b rule x
+  pub refuses-bad : {A : Type 0} {rule x : Outcome A} → r ≡ BadObject → x ≡ refuse 43 nowhere → OfObject c b rule x
   refuses-bad {A} {rule} {x} q d = go l
     where
-      go : Lent c b (ok tt) (outcome r) → Lent c b rule x
+      go : OfObject c b (ok tt) (outcome r) → OfObject c b rule x
       go (too-short p e) = absurd (let z = ap numberOf (sym (ap outcome q) ∙ e) in omega arith)
       go (bad-object p n e) = bad-object p n d
       go (on-object p v e) = absurd (let z = ap numberOf (sym (ap outcome q) ∙ e) in omega arith)

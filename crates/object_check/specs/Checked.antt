@@ -5,7 +5,8 @@ use native.Mathlib.Omega.{arith}
 use Rattle.rules.specs.Base.{Outcome, ok, refused, refuse, nowhere}
 use Rattle.rules.specs.Objects.{Counts}
 use Rattle.rules.specs.Buffers.{Buffers}
-use Rattle.object.specs.Lent.{Lent, lent-once}
+use Rattle.rules.specs.Calls.{OfObject}
+use Rattle.rules.proofs.Calls.{answered-once}
 use Rattle.object_check.specs.declared.Checked.{Checked}
 use Rattle.object_check.specs.declared.Checked.the-variants.{Object, ShortBuffer, BadObject}
 
@@ -32,5 +33,5 @@ outcome-one BadObject ShortBuffer e = absurd (let z = ap numberOf e in omega ari
 outcome-one BadObject BadObject e = refl
 
 -- two answers of `check_object` that its contract allows are equal
-pub checked-once : (c : Counts) (b : Buffers) (r s : Checked) → Lent c b (ok tt) (outcome r) → Lent c b (ok tt) (outcome s) → r ≡ s
-checked-once c b r s l m = outcome-one r s (lent-once l m)
+pub checked-once : (c : Counts) (b : Buffers) (r s : Checked) → OfObject c b (ok tt) (outcome r) → OfObject c b (ok tt) (outcome s) → r ≡ s
+checked-once c b r s l m = outcome-one r s (answered-once l m)

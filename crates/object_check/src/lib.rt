@@ -1,9 +1,8 @@
 // Whether lent buffers are an object: refusals 42 and 43.
-ghost use mathlib.Core.Path.{_≡_};
 ghost use Rattle.rules.specs.Base.{ok};
 ghost use Rattle.rules.specs.Buffers.{six, Valid};
 ghost use Rattle.object.specs.Decides.{Decides};
-ghost use Rattle.object.specs.Lent.{Lent};
+ghost use Rattle.rules.specs.Calls.{OfObject};
 ghost use Rattle.object.specs.Meaning.{counts};
 ghost use Rattle.object_check.specs.Checked.{outcome};
 use object::Counts;
@@ -31,13 +30,13 @@ pub fn is_object(
     let w = c.words;
     let m = c.labels;
     let n = c.relocations;
-    let good_blocks = object_blocks::check_blocks(blocks, nb, w);
-    let good_words = object_blocks::check_words(words, marks, w);
-    let good_labels = object_labels::check_labels(labels, names, m);
+    let good_blocks = object_check_blocks::check_blocks(blocks, nb, w);
+    let good_words = object_check_blocks::check_words(words, marks, w);
+    let good_labels = object_check_labels::check_labels(labels, names, m);
     if good_blocks {
         if good_words {
             if good_labels {
-                object_relocations::check_relocations(
+                object_check_relocations::check_relocations(
                     blocks,
                     nb,
                     words,
@@ -69,7 +68,7 @@ pub fn check_object(
     relocations: &[u32],
     names: &[u8],
 ) -> Checked
-    ensures { λ r. ⌜ Lent (counts c) (six (now (blocks .entry)) (now (words .entry)) (now (marks .entry)) (now (labels .entry)) (now (relocations .entry)) (now (names .entry))) (ok tt) (outcome r) ⌝ }
+    ensures { λ r. ⌜ OfObject (counts c) (six (now (blocks .entry)) (now (words .entry)) (now (marks .entry)) (now (labels .entry)) (now (relocations .entry)) (now (names .entry))) (ok tt) (outcome r) ⌝ }
 {
     let short = object::is_short(blocks, words, marks, labels, relocations, names);
     if short {

@@ -13,10 +13,11 @@ use Rattle.lex_source.specs.declared.Lexed.{Lexed}
 use Rattle.lex_source.specs.declared.Lexed.the-variants.{Clean, Fault}
 use Rattle.lex_source.specs.Lexed.{meantLexed, unlessHigh}
 use Rattle.lex_source.proofs.WalkSteps as bytes
-use Rattle.text.specs.Runs.{runEnd}
-use Rattle.text.specs.declared.Class.the-variants as class
-use Rattle.walks.proofs.Read.{read-verdict}
+use Rattle.base_text.specs.Runs.{runEnd}
+use Rattle.base_text.specs.declared.Class.the-variants as class
+use Rattle.laws.proofs.Read.{read-verdict}
 use Rattle.rules.proofs.Following.{statement-goes, statements-on, statements-none, statements-refused}
+use Rattle.rules.proofs.Bools.{never}
 use Rattle.parse.specs.declared.Statement.{Statement}
 use Rattle.parse.specs.declared.NextStatement.{NextStatement}
 use Rattle.parse.specs.declared.NextStatement.the-variants.{End, Refused}
@@ -34,15 +35,15 @@ pub record WasRead (o : Outcome (Option Read)) (st : Statement) : Type 0 where
 
 pub was-read : (o : Outcome (Option Read)) (st : Statement) → codedStatement o ≡ next.Read st → WasRead o st
 unfolding codedStatement
-was-read (ok none) st e = let z : _≡_ {A = ℕ} 0 1 = cc in absurd (omega arith)
+was-read (ok none) st e = never cc
 was-read (ok (some x)) st e = record { read = x; is = refl; coded = cc }
-was-read (refused r) st e = let z : _≡_ {A = ℕ} 0 1 = cc in absurd (omega arith)
+was-read (refused r) st e = never cc
 
 pub was-end : (o : Outcome (Option Read)) → codedStatement o ≡ End → o ≡ ok none
 unfolding codedStatement
 was-end (ok none) e = refl
-was-end (ok (some x)) e = let z : _≡_ {A = ℕ} 0 1 = cc in absurd (omega arith)
-was-end (refused r) e = let z : _≡_ {A = ℕ} 0 1 = cc in absurd (omega arith)
+was-end (ok (some x)) e = never cc
+was-end (refused r) e = never cc
 
 pub record WasRefused (o : Outcome (Option Read)) (n a e : ℕ) : Type 0 where
   pub refusal : Refusal
@@ -51,8 +52,8 @@ pub record WasRefused (o : Outcome (Option Read)) (n a e : ℕ) : Type 0 where
 
 pub was-refused : (o : Outcome (Option Read)) (n a e : ℕ) → codedStatement o ≡ Refused n a e → WasRefused o n a e
 unfolding codedStatement
-was-refused (ok none) n a e h = let z : _≡_ {A = ℕ} 0 1 = cc in absurd (omega arith)
-was-refused (ok (some x)) n a e h = let z : _≡_ {A = ℕ} 0 1 = cc in absurd (omega arith)
+was-refused (ok none) n a e h = never cc
+was-refused (ok (some x)) n a e h = never cc
 was-refused (refused r) n a e h =
     let x : r .number ≡ n = cc in
     let y : r .first .start ≡ a = cc in
@@ -111,14 +112,14 @@ module _ (s : List ℕ) (x : Lexed) (h : meantLexed x ≡ verdict (lexed s)) whe
     where
       go : (o : Outcome (List Token)) → ok tt ≡ verdict o → r ≡ codedStatements (o >>= λ ts. statements s)
       go (ok ts) w = q
-      go (refused y) w = let z : _≡_ {A = ℕ} 0 1 = cc in absurd (omega arith)
+      go (refused y) w = never cc
 
   pub source-fault : (n a e : ℕ) → x ≡ Fault n a e → all.Refused n a e ≡ codedStatements (sourceStatements s)
   unfolding meantLexed verdict sourceStatements codedStatements
   source-fault n a e q = go (lexed s) (rw q at h)
     where
       go : (o : Outcome (List Token)) → refuse n (span a e) ≡ verdict o → all.Refused n a e ≡ codedStatements (o >>= λ ts. statements s)
-      go (ok ts) w = let z : _≡_ {A = ℕ} 0 1 = cc in absurd (omega arith)
+      go (ok ts) w = never cc
       go (refused y) w =
           let i : record { number = n; first = span a e; second = nowhere } ≡ y = cc in
           rw (← i)
@@ -127,7 +128,7 @@ module _ (s : List ℕ) (x : Lexed) (h : meantLexed x ≡ verdict (lexed s)) whe
 all-read : (s : List ℕ) (o : Outcome (List Stmt)) → statements s ≡ o → Accepted ≡ codedStatements o → AllRead s
 unfolding codedStatements
 all-read s (ok ss) q e = record { stmts = ss; read = q }
-all-read s (refused r) q e = let z : _≡_ {A = ℕ} 0 1 = cc in absurd (omega arith)
+all-read s (refused r) q e = never cc
 
 module _ (s : List ℕ) where
   pub source-read : (x : Statements) → x ≡ codedStatements (statements s) → x ≡ Accepted → AllRead s

@@ -14,15 +14,15 @@ use Rattle.rules.specs.Base.{if_then_else_, ok, refuse, _>>=_, span}
 use Rattle.rules.specs.Tokens.{Kind, tokenIn, directive, word, upper, nextToken}
 use Rattle.rules.specs.Words.{instructions, directives}
 use Rattle.rules.specs.Statements.{Name, asWord, asDirective, need, pastLines, pastLabels, labelsAt, instrRead, tokenRead, nextStatement}
-use Rattle.token.specs.Meant.{part, kindAt}
-use Rattle.token.specs.declared.Lexeme.{Lexeme}
-use Rattle.lexeme.specs.Sorts.{nameOf, kindBy, noRow, Stands}
-use Rattle.lexeme.proofs.Marks.{end-sort}
-use Rattle.labels.specs.declared.Walk.{Walk}
-use Rattle.labels.specs.Walk.{Walked}
-use Rattle.statement_rows.specs.declared.Row as rows
-use Rattle.statement_rows.specs.Rows.{fieldsBy, rowAt, Means, codeFrom}
-use Rattle.statement_rows.proofs.Rule.{Found, directive-found, directive-missed}
+use Rattle.lex_token.specs.Meant.{part, kindAt}
+use Rattle.lex_token.specs.declared.Lexeme.{Lexeme}
+use Rattle.lex.specs.Sorts.{nameOf, kindBy, noRow, Stands}
+use Rattle.lex.proofs.Marks.{end-sort}
+use Rattle.parse_labels.specs.declared.Walk.{Walk}
+use Rattle.parse_labels.specs.Walk.{Walked}
+use Rattle.parse_rows.specs.declared.Row as rows
+use Rattle.parse_rows.specs.Rows.{fieldsBy, rowAt, Means, codeFrom}
+use Rattle.parse_rows.proofs.Rule.{Found, directive-found, directive-missed}
 use Rattle.parse.specs.declared.NextStatement.{NextStatement}
 use Rattle.parse.specs.declared.NextStatement.the-variants.{End, Refused}
 use Rattle.parse.specs.Coded.{codedStatement, unfitAt, rowStep, dotRead}

@@ -16,19 +16,19 @@ use Rattle.rules.specs.Words as words
 use Rattle.rules.specs.Statements.{Name, ends, tokenIs, bare, operandsFrom, lineEnd, read, stmt, rowRead, instrRead}
 use Rattle.rules.specs.Statements as rules
 use Rattle.rules.proofs.Ahead.{is-token, is-refused}
-use Rattle.token.specs.declared.Lexeme.{Lexeme}
-use Rattle.lexeme.specs.Sorts.{kindBy, noRow, Stands}
-use Rattle.lexeme.proofs.Marks.{line-sort, end-sort}
-use Rattle.operands.specs.declared.Given.{Given}
-use Rattle.operands.specs.declared.Step.{Step}
-use Rattle.operands.specs.declared.Step.the-variants as step
-use Rattle.statement_rows.specs.declared.Op.{Op}
-use Rattle.statement_rows.specs.declared.Op.the-variants.{Instr, Orig, Fill, Blkw, Stringz, External}
-use Rattle.statement_rows.specs.declared.Op.the-variants as op
-use Rattle.statement_rows.specs.declared.Row.{Row}
-use Rattle.statement_rows.specs.Rows.{fieldsBy, opOf, rowAt, Means}
-use Rattle.statement_rows.proofs.Rule.{instruction-means}
-use Rattle.lines.specs.Lines.{codedGiven, codedStep, lineStep}
+use Rattle.lex_token.specs.declared.Lexeme.{Lexeme}
+use Rattle.lex.specs.Sorts.{kindBy, noRow, Stands}
+use Rattle.lex.proofs.Marks.{line-sort, end-sort}
+use Rattle.parse_field.specs.declared.Given.{Given}
+use Rattle.parse_field.specs.declared.Step.{Step}
+use Rattle.parse_field.specs.declared.Step.the-variants as step
+use Rattle.parse_rows.specs.declared.Op.{Op}
+use Rattle.parse_rows.specs.declared.Op.the-variants.{Instr, Orig, Fill, Blkw, Stringz, External}
+use Rattle.parse_rows.specs.declared.Op.the-variants as op
+use Rattle.parse_rows.specs.declared.Row.{Row}
+use Rattle.parse_rows.specs.Rows.{fieldsBy, opOf, rowAt, Means}
+use Rattle.parse_rows.proofs.Rule.{instruction-means}
+use Rattle.parse_operands.specs.Lines.{codedGiven, codedStep, lineStep}
 use Rattle.parse.specs.declared.NextStatement.{NextStatement}
 use Rattle.parse.specs.declared.NextStatement.the-variants.{Refused}
 use Rattle.parse.specs.declared.NextStatement.the-variants as next

@@ -11,16 +11,16 @@ use Rattle.rules.specs.Words.{instr, orig, fill, blkw, stringz, end, external, 
 use Rattle.rules.specs.Words as words
 use Rattle.rules.specs.Tokens.{Token, lexed}
 use Rattle.rules.specs.Statements.{Name, Stmt, Read, need, ends, tokenIs, lineEnd, rowRead, statements}
-use Rattle.token.specs.declared.Lexeme.{Lexeme}
-use Rattle.operands.specs.declared.Given.{Given}
-use Rattle.operands.specs.declared.Step.{Step}
-use Rattle.operands.specs.declared.Step.the-variants as step
-use Rattle.statement_rows.specs.declared.Op.{Op}
-use Rattle.statement_rows.specs.declared.Op.the-variants.{Instr, Orig, Fill, Blkw, Stringz, External}
-use Rattle.statement_rows.specs.declared.Op.the-variants as op
-use Rattle.statement_rows.specs.declared.Row.{Row}
-use Rattle.statement_rows.specs.Rows.{fieldsBy}
-use Rattle.lines.specs.Lines.{reachOf, labelStart, labelEnd, lineStep}
+use Rattle.lex_token.specs.declared.Lexeme.{Lexeme}
+use Rattle.parse_field.specs.declared.Given.{Given}
+use Rattle.parse_field.specs.declared.Step.{Step}
+use Rattle.parse_field.specs.declared.Step.the-variants as step
+use Rattle.parse_rows.specs.declared.Op.{Op}
+use Rattle.parse_rows.specs.declared.Op.the-variants.{Instr, Orig, Fill, Blkw, Stringz, External}
+use Rattle.parse_rows.specs.declared.Op.the-variants as op
+use Rattle.parse_rows.specs.declared.Row.{Row}
+use Rattle.parse_rows.specs.Rows.{fieldsBy}
+use Rattle.parse_operands.specs.Lines.{reachOf, labelStart, labelEnd, lineStep}
 use Rattle.parse.specs.declared.Statement.{Statement}
 use Rattle.parse.specs.declared.NextStatement.{NextStatement}
 use Rattle.parse.specs.declared.NextStatement.the-variants.{End, Refused}

@@ -1,2 +1,3 @@
 -- What the contracts of `parse` cite beside the rules. Assumes nothing.
 pub mod Coded
+pub mod Reach

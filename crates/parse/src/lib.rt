@@ -1,12 +1,17 @@
 // One statement at a time, from the source.
+use base_refusals::BAD_OPERAND;
+use base_refusals::BAD_STATEMENT;
+use base_refusals::NAME_TOO_LONG;
+use base_refusals::NON_ASCII;
+use base_refusals::SOURCE_TOO_LONG;
+use base_text::Class;
+use lex::next_lexeme;
 use lex_source::Lexed;
-use lexeme::next_lexeme;
-use operands::Given;
-use operands::Step;
-use statement_rows::Op;
-use statement_rows::Row;
-use text::Class;
-use token::Lexeme;
+use lex_token::Lexeme;
+use parse_field::Given;
+use parse_field::Step;
+use parse_rows::Op;
+use parse_rows::Row;
 ghost use mathlib.Core.Path.{_≡_};
 ghost use mathlib.Core.Bool.{not};
 ghost use mathlib.Core.List.{List, map};
@@ -17,9 +22,9 @@ ghost use Rattle.rules.specs.Base.{span};
 ghost use Rattle.rules.specs.Tokens.{Kind, tokenIn, upper};
 ghost use Rattle.rules.specs.Words.{instructions};
 ghost use Rattle.rules.specs.Statements.{Name, instrRead, nextStatement, statements};
-ghost use Rattle.token.specs.Meant.{part};
-ghost use Rattle.lexeme.specs.Sorts.{noRow};
-ghost use Rattle.statement_rows.specs.Rows.{fieldsBy};
+ghost use Rattle.lex_token.specs.Meant.{part};
+ghost use Rattle.lex.specs.Sorts.{noRow};
+ghost use Rattle.parse_rows.specs.Rows.{fieldsBy};
 ghost use Rattle.parse.specs.Coded.{made, finished, rowStep, nopStep, bareRow, unfitAt, dotRead, codedStatement, codedStatements, sourceStatements, AllRead};
 
 // A statement: whether labels stand before it; what it does; its word or number as far as it is known; the number of values of its label operand's field (0: no label operand) and the
@@ -74,10 +79,10 @@ fn refused(number: u16, t: Lexeme) -> NextStatement
 fn unfit(t: Lexeme) -> NextStatement
     ensures { λ r. ⌜ r ≡ unfitAt t ⌝ }
 {
-    if t.sort == 11 {
+    if t.sort == lex_token::FAULT {
         return refused(t.value, t);
     }
-    refused(13, t)
+    refused(BAD_STATEMENT, t)
 }
 
 // A statement of what is given, from its first token up to its last operand.
@@ -104,10 +109,10 @@ fn line_end(src: &[u8], labelled: bool, op: Op, head: Lexeme, g: Given) -> NextS
     ensures { λ r. ⌜ r ≡ finished (now (src .entry)) labelled op (head .start) g ⌝ }
 {
     let t = next_lexeme(src, g.stop);
-    if t.sort == 9 {
+    if t.sort == lex_token::NEWLINE {
         return read_of(labelled, op, head, g, t.end);
     }
-    if t.sort == 10 {
+    if t.sort == lex_token::END {
         return read_of(labelled, op, head, g, t.end);
     }
     unfit(t)
@@ -118,7 +123,7 @@ fn row_read(src: &[u8], labelled: bool, row: Row, t: Lexeme, other: u16) -> Next
     ensures { λ r. ⌜ r ≡ rowStep (now (src .entry)) labelled (row .op) (fieldsBy (row .count) (row .first) (row .second) (row .third)) other (row .base) (t .start) (t .end) ⌝ }
 {
     let op = row.op;
-    let step = lines::operands_from(src, t.end, row, other);
+    let step = parse_operands::operands_from(src, t.end, row, other);
     match step {
         Step::Took(g) => line_end(src, labelled, op, t, g),
         Step::Refused { number, start, end } => NextStatement::Refused { number, start, end },
@@ -148,25 +153,28 @@ fn nop_read(src: &[u8], labelled: bool, row: Row, t: Lexeme) -> NextStatement
     ensures { λ r. ⌜ r ≡ nopStep (now (src .entry)) labelled row (t .start) (t .end) ⌝ }
 {
     let after = next_lexeme(src, t.end);
-    if after.sort == 9 {
-        return row_read(src, labelled, without_operands(row), t, 13);
+    if after.sort == lex_token::NEWLINE {
+        return row_read(src, labelled, without_operands(row), t, BAD_STATEMENT);
     }
-    if after.sort == 10 {
-        return row_read(src, labelled, without_operands(row), t, 13);
+    if after.sort == lex_token::END {
+        return row_read(src, labelled, without_operands(row), t, BAD_STATEMENT);
     }
-    row_read(src, labelled, row, t, 13)
+    row_read(src, labelled, row, t, BAD_STATEMENT)
 }
+
+// NOP is the one row whose word with all operands zero is this.
+const NOP: u16 = 0;
 
 // The statement of an instruction, with labels before it or none.
 fn instruction(src: &[u8], labelled: bool, t: Lexeme) -> NextStatement
     requires { ⌜ t .value < 32 ⌝ }
     ensures { λ r. ⌜ ((ls : List Name) (k : Kind) → labelled ≡ not (eqb (length ls) 0) → r ≡ codedStatement (instrRead (now (src .entry)) ls (getD instructions (t .value) noRow) (tokenIn k (span (t .start) (t .end))))) ⌝ }
 {
-    let row = statement_rows::row_at(t.value as usize);
-    if row.base == 0 {
+    let row = parse_rows::row_at(t.value as usize);
+    if row.base == NOP {
         return nop_read(src, labelled, row, t);
     }
-    row_read(src, labelled, row, t, 14)
+    row_read(src, labelled, row, t, BAD_OPERAND)
 }
 
 // A directive's name: the part of the source after the dot.
@@ -190,31 +198,31 @@ fn name_after(src: &[u8], dot: usize, end: usize) -> &[u8]
 fn directive(src: &[u8], labelled: bool, t: Lexeme) -> NextStatement
     ensures { λ r. ⌜ ((ls : List Name) (k : Kind) → labelled ≡ not (eqb (length ls) 0) → r ≡ codedStatement (dotRead (now (src .entry)) ls (map upper (part (now (src .entry)) (t .start + 1) (t .end))) (tokenIn k (span (t .start) (t .end))))) ⌝ }
 {
-    let code = statement_rows::directive_code(name_after(src, t.start, t.end));
-    if code < 38 {
-        return row_read(src, labelled, statement_rows::row_at(code), t, 14);
+    let code = parse_rows::directive_code(name_after(src, t.start, t.end));
+    if code < parse_rows::ROWS {
+        return row_read(src, labelled, parse_rows::row_at(code), t, BAD_OPERAND);
     }
-    refused(13, t)
+    refused(BAD_STATEMENT, t)
 }
 
 // The statement that begins at a place or after it.
 pub fn next_statement(src: &[u8], at: usize) -> NextStatement
     ensures { λ r. ⌜ r ≡ codedStatement (nextStatement (now (src .entry)) at) ⌝ }
 {
-    let walk = labels::walk_labels(src, at);
+    let walk = parse_labels::walk_labels(src, at);
     let t = walk.token;
-    if t.sort == 5 {
+    if t.sort == lex_token::RESERVED {
         return instruction(src, walk.labelled, t);
     }
-    if t.sort == 6 {
+    if t.sort == lex_token::DIRECTIVE {
         return directive(src, walk.labelled, t);
     }
-    if t.sort == 3 {
-        return refused(16, t);
+    if t.sort == lex_token::LABEL {
+        return refused(NAME_TOO_LONG, t);
     }
-    if t.sort == 10 {
+    if t.sort == lex_token::END {
         if walk.labelled {
-            return refused(13, t);
+            return refused(BAD_STATEMENT, t);
         }
         return NextStatement::End;
     }
@@ -247,10 +255,10 @@ pub fn check_bytes(src: &[u8]) -> Statements
     requires { ⌜ (length (now src) ≤ 262144) × AllRead (now src) ⌝ }
     ensures { λ r. ⌜ r ≡ codedStatements (sourceStatements (now (src .entry))) ⌝ }
 {
-    let high = text::run_end(src, 0, Class::Ascii);
+    let high = base_text::run_end(src, 0, Class::Ascii);
     if high < src.len() {
         return Statements::Refused {
-            number: 12,
+            number: NON_ASCII,
             start: high,
             end: high + 1,
         };
@@ -265,11 +273,7 @@ fn lexed_first(src: &[u8], answer: Statements) -> Statements
 {
     match lex_source::first_refusal(src) {
         Lexed::Clean => answer,
-        Lexed::Fault { number, start, end } => Statements::Refused {
-            number: number as u16,
-            start,
-            end,
-        },
+        Lexed::Fault { number, start, end } => Statements::Refused { number, start, end },
     }
 }
 
@@ -278,9 +282,9 @@ fn lexed_first(src: &[u8], answer: Statements) -> Statements
 pub fn check_source(src: &[u8]) -> Statements
     ensures { λ r. ⌜ r ≡ codedStatements (sourceStatements (now (src .entry))) ⌝ }
 {
-    if 262144 < src.len() {
+    if base_capacities::SOURCE_BYTES < src.len() {
         return Statements::Refused {
-            number: 11,
+            number: SOURCE_TOO_LONG,
             start: 0,
             end: src.len(),
         };

@@ -1,5 +1,5 @@
--- WHAT IS PROVED. Each final theorem of the project, stated here and cited from its proof; the words that it uses are defined in crate `rules`.
--- Assumes nothing.
+-- WHAT IS PROVED. Each final theorem of the project, stated here and cited from its proof. Every word that it uses is defined in a folder `specs`: what is right in
+-- that of crate `rules`, what the answers of a crate's code mean in that crate's own. Assumes nothing.
 use Prim.Native.Nat.{ℕ, _^_, _≤_, _<_}
 use mathlib.Core.Bool.{Bool, true, false}
 use mathlib.Core.List.{List, [], _∷_, map}
@@ -10,32 +10,32 @@ use Rattle.rules.specs.Tokens.{Match, tokenAt, tokenIn, upper, nextToken, lexed
 use Rattle.rules.specs.Tokens as Kinds
 use Rattle.rules.specs.Patterns.{patterns, LongestMatch}
 use Rattle.rules.specs.Examples.{EveryRow}
-use Rattle.rules.specs.Base.{ok, refused, Refusal, span, nowhere, verdict}
+use Rattle.rules.specs.Base.{Outcome, ok, refused, Refusal, span, nowhere, verdict}
 use Rattle.rules.specs.Passes.{assemble}
-use Rattle.rules.specs.Statements.{Name, fit, nameAt, pastLines, pastLabel, labelsAt, Read, nextStatement, statements}
+use Rattle.rules.specs.Statements.{Name, nameAt, pastLines, pastLabel, labelsAt, Read, GoesOn, nextStatement, statements}
 use Rattle.rules.specs.Words as R
-use Rattle.rules.specs.Words.{Range, signed, offset, fits, reach, field, extend, Instr, word, disassemble, line, Shown}
+use Rattle.rules.specs.Words.{Range, signed, offset, fits, reach, field, extend, Width, Instr, word, disassemble, line, Shown}
 use Rattle.rules.specs.Objects.{Object, nothing, Counts, countsOf, flat, lookupLabel, Good}
 use Rattle.rules.specs.Buffers.{Buffers, short, lentWords, view, layout, Valid}
 use Rattle.rules.specs.Examples as Examples
 use Rattle.rules.proofs.Longest as Longest
 use Rattle.rules.proofs.Ahead as Ahead
 use Rattle.rules.proofs.Following as Following
-use Rattle.rules.proofs.Following.{Goes}
-use Rattle.labels.specs.Walk.{labelFrom}
-use Rattle.labels.specs.declared.NextLabel.{NextLabel}
+use Rattle.parse_labels.specs.Walk.{labelFrom}
+use Rattle.parse_labels.specs.declared.NextLabel.{NextLabel}
 use Rattle.parse.specs.Coded.{codedStatement, codedStatements, sourceStatements}
 use Rattle.parse.specs.declared.NextStatement.{NextStatement}
 use Rattle.parse.specs.declared.Statements.{Statements}
+use Rattle.parse.specs.Reach.{LabelField, HasField}
 use Rattle.parse.proofs.Reach as Reach
 use Rattle.parse.proofs.Unique as Parser
-use Rattle.reserved.specs.declared.Ident.{Ident}
-use Rattle.token.specs.Coded.{coded}
-use Rattle.token.specs.Meant as Meant
-use Rattle.token.specs.declared.Token.the-variants as tok
-use Rattle.token.specs.declared.Next.{Next}
-use Rattle.token.specs.declared.Next.the-variants.{Took}
-use Rattle.token.proofs.MeantCoded as Tokens
+use Rattle.lex_reserved.specs.declared.Ident.{Ident}
+use Rattle.lex_token.specs.Coded.{coded}
+use Rattle.lex_token.specs.Meant as Meant
+use Rattle.lex_token.specs.declared.Token.the-variants as tok
+use Rattle.lex_token.specs.declared.Next.{Next}
+use Rattle.lex_token.specs.declared.Next.the-variants.{Took}
+use Rattle.lex_token.proofs.MeantCoded as Tokens
 use Rattle.lex.specs.Label.{labelText}
 use Rattle.lex.proofs.LabelLaws as Labels
 use Rattle.lex_source.specs.Lexed.{meantLexed}
@@ -45,36 +45,37 @@ use Rattle.list.specs.Call as Call
 use Rattle.list.specs.Call.{Called}
 use Rattle.list.specs.declared.Listed.{Listed}
 use Rattle.rules.proofs.Fields as Fields
-use Rattle.rules.proofs.Fields.{Width}
 use Rattle.rules.proofs.Disassembly as Disassembly
 use Rattle.rules.proofs.Laid as Laid
 use Rattle.rules.proofs.Sound as Sound
 use Rattle.rules.proofs.Fits as Fits
+use Rattle.rules.proofs.Calls as Calling
 use Rattle.asm.specs.declared.Answer as Assembling
 use Rattle.asm.proofs.Accepting as Accepting
-use Rattle.accepted.proofs.Accepted as Assembly
-use Rattle.words.specs.Fields.{encoded, meantBits, meantOffset, whole}
-use Rattle.words.specs.Instructions.{meant}
-use Rattle.words.specs.Disassembly.{meantIf, meantLine}
-use Rattle.words.specs.declared.AsmInstr.{AsmInstr}
-use Rattle.words.specs.declared.fields.Encoded.{Encoded}
-use Rattle.words.specs.declared.fields.Encoded.the-variants.{Bits}
-use Rattle.words.specs.declared.fields.Replaced.{Replaced}
-use Rattle.words.specs.declared.fields.Replaced.the-variants.{Offset, OffsetNewErr}
-use Rattle.words.specs.declared.disassembly.Disassembled.{Disassembled}
-use Rattle.words.specs.declared.disassembly.Disassembled.the-variants as D
-use Rattle.words.specs.declared.disassembly.Line.{Line}
-use Rattle.words.proofs.Promises as Words
-use Rattle.object.specs.Lent.{Lent}
+use Rattle.laws_accepted.proofs.Accepted as Assembly
+use Rattle.isa_fields.specs.Fields.{encoded, meantOffset}
+use Rattle.isa.specs.Instructions.{meant}
+use Rattle.isa.specs.Disassembly.{meantIf, meantLine}
+use Rattle.isa.specs.declared.AsmInstr.{AsmInstr}
+use Rattle.isa_fields.specs.declared.Encoded.{Encoded}
+use Rattle.isa_fields.specs.declared.Encoded.the-variants.{Bits}
+use Rattle.isa_fields.specs.declared.Replaced.{Replaced}
+use Rattle.isa_fields.specs.declared.Replaced.the-variants.{Offset, OffsetNewErr}
+use Rattle.isa.specs.declared.disassembly.Disassembled.{Disassembled}
+use Rattle.isa.specs.declared.disassembly.Disassembled.the-variants as D
+use Rattle.isa.specs.declared.disassembly.Line.{Line}
+use Rattle.isa.proofs.Promises as Words
+use Rattle.isa_fields.proofs.Promises as FieldsOf
+use Rattle.rules.specs.Calls.{Answered, OfObject, leftObject}
 use Rattle.object_check.specs.Checked as Check
 use Rattle.object_check.specs.Checked.{outcome}
 use Rattle.object_check.specs.declared.Checked.{Checked}
-use Rattle.lookup.specs.Told.{said, Reversed}
-use Rattle.lookup.specs.declared.Said.{Said}
-use Rattle.lookup.specs.declared.Found.{Found}
-use Rattle.lookup.proofs.Once as Lookup
+use Rattle.object_lookup.specs.Told.{said, Reversed}
+use Rattle.object_lookup.specs.declared.Said.{Said}
+use Rattle.object_lookup.specs.declared.Found.{Found}
+use Rattle.object_lookup.proofs.Once as Lookup
 use Rattle.rules.specs.Answers.{numbers, answer}
-use Rattle.asm.specs.Call.{called, left, Assembled}
+use Rattle.asm.specs.Call.{called, Assembled, AcceptedCall}
 use Rattle.lc3_answers.specs.Told as Told
 use Rattle.lc3.specs.Calls as Calls
 use Rattle.lc3.specs.Calls.{checked, ListCall, LookupCall, RevLookupCall}
@@ -114,11 +115,11 @@ pub labels-end : (s : List ℕ) (at : ℕ) → nameAt s (pastLines s at) ≡ non
 labels-end = Ahead.names-done
 
 -- A statement goes on from its place and not past the source, so that reading one after another ends.
-pub statement-goes-on : (s : List ℕ) (at : ℕ) (x : Read) → nextStatement s at ≡ ok (some x) → Goes s at x
+pub statement-goes-on : (s : List ℕ) (at : ℕ) (x : Read) → nextStatement s at ≡ ok (some x) → GoesOn s at x
 statement-goes-on = Following.statement-goes
 
 -- In an accepted statement a label operand goes to an offset9 or an offset11 of an instruction, or to the word of .fill or .external.
-pub label-operand-field : (s : List ℕ) (i : ℕ) (x : Read) → nextStatement s i ≡ ok (some x) → Reach.Holds (Reach.Reached (x .stmt .op)) (x .stmt .target)
+pub label-operand-field : (s : List ℕ) (i : ℕ) (x : Read) → nextStatement s i ≡ ok (some x) → HasField (LabelField (x .stmt .op)) (x .stmt .target)
 label-operand-field = Reach.statement-known
 
 -- Two answers that a contract allows are equal: `next_label`; `next_statement`; `first_refusal` (13 to 16); `check_source` (11, 12, 1 to 10, then 13 to 16).
@@ -175,12 +176,16 @@ valid-has-its-counts = Sound.valid-counts
 pub layout-is-valid : (o : Object) (b : Buffers) → Good o → short b ≡ false → length (flat (o .blocks)) ≤ lentWords (b .words) (b .marks) → Valid (countsOf o) (layout o b)
 layout-is-valid = Fits.layout-valid
 
+-- EVERY CALL ON LENT OBJECTS: 42, then 43, then its rule. Two answers that this allows are equal, whatever the rule.
+pub answered-once : {A : Type 0} {small : Bool} {valid : Type 0} {rule r s : Outcome A} → Answered small valid rule r → Answered small valid rule s → r ≡ s
+answered-once = Calling.answered-once
+
 -- THE CODE OF LENT OBJECTS. Two answers that a contract allows are equal: `check_object`; `lookup_label`; `rev_lookup_label`.
-pub check-object-one-answer : (c : Counts) (b : Buffers) (r s : Checked) → Lent c b (ok tt) (outcome r) → Lent c b (ok tt) (outcome s) → r ≡ s
+pub check-object-one-answer : (c : Counts) (b : Buffers) (r s : Checked) → OfObject c b (ok tt) (outcome r) → OfObject c b (ok tt) (outcome s) → r ≡ s
 check-object-one-answer = Check.checked-once
 
 pub lookup-label-one-answer :
-    (c : Counts) (b : Buffers) (m : List ℕ) (r s : Said) → Lent c b (ok (lookupLabel (view c b) m)) (said r) → Lent c b (ok (lookupLabel (view c b) m)) (said s) → r ≡ s
+    (c : Counts) (b : Buffers) (m : List ℕ) (r s : Said) → OfObject c b (ok (lookupLabel (view c b) m)) (said r) → OfObject c b (ok (lookupLabel (view c b) m)) (said s) → r ≡ s
 lookup-label-one-answer = Lookup.said-once
 
 pub rev-lookup-label-one-answer : (c : Counts) (b : Buffers) (a : ℕ) (r s : Found) → Reversed c b a r → Reversed c b a s → r ≡ s
@@ -204,12 +209,12 @@ disassemble-encode = Words.disassemble-encode
 
 -- `replace_pc_offset9` and `replace_pc_offset11`: 29 exactly where the offset lies outside the field.
 pub refused-outside : (f : Range) (label pc : ℕ) (r : Replaced) → meantOffset r ≡ reach f label pc nowhere → fits f (offset label pc) ≡ false → r ≡ OffsetNewErr
-refused-outside = Words.refused-outside
+refused-outside = FieldsOf.refused-outside
 
 pub accepted-inside : (f : Range) (label pc : ℕ) (r : Replaced) → meantOffset r ≡ reach f label pc nowhere → fits f (offset label pc) ≡ true → r ≡ Offset (offset label pc)
-accepted-inside = Words.accepted-inside
+accepted-inside = FieldsOf.accepted-inside
 
--- Two answers that a contract allows are equal: `encode`; `try_disassemble_line`; `disassemble_line`; `imm5` to `trap8`; `replace_pc_offset9` and `11`; `low5` to `low11`.
+-- Two answers that a contract allows are equal: `encode`; `try_disassemble_line`; `disassemble_line`; `replace_pc_offset9` and `11`; `low5` to `low11`.
 pub encode-one-answer : (i : AsmInstr) (r s : Encoded) → r ≡ encoded (word (meant i)) → s ≡ encoded (word (meant i)) → r ≡ s
 encode-one-answer = Words.encode-one-answer
 
@@ -219,22 +224,18 @@ try-disassemble-one-answer = Words.try-disassemble-one-answer
 pub disassemble-line-one-answer : (w : ℕ) (r s : Line) → meantLine r ≡ line w → meantLine s ≡ line w → r ≡ s
 disassemble-line-one-answer = Words.disassemble-line-one-answer
 
-pub number-one-answer :
-    (f : Range) (negative : Bool) (size : ℕ) (r s : Encoded) → meantBits r ≡ fit f (whole negative size) nowhere → meantBits s ≡ fit f (whole negative size) nowhere → r ≡ s
-number-one-answer = Words.number-one-answer
-
 pub offset-one-answer : (f : Range) (label pc : ℕ) (r s : Replaced) → meantOffset r ≡ reach f label pc nowhere → meantOffset s ≡ reach f label pc nowhere → r ≡ s
-offset-one-answer = Words.offset-one-answer
+offset-one-answer = FieldsOf.offset-one-answer
 
 pub value-one-answer : (f : Range) (d : ℕ) (r s : Encoded) → r ≡ encoded (R.bits (R.num f) (R.value d)) → s ≡ encoded (R.bits (R.num f) (R.value d)) → r ≡ s
-value-one-answer = Words.value-one-answer
+value-one-answer = FieldsOf.value-one-answer
 
 -- ASSEMBLING, `asm::assemble`. What the rule accepts is a good object. What the call accepts is that object in its one layout, valid, with its counts; a refusal leaves every
 -- buffer zero; two answers that the contract allows are equal, and so are the buffers.
 pub accepted-object-good : (room : ℕ) (s : List ℕ) (o : Object) → assemble room s ≡ ok o → Good o
 accepted-object-good = Assembly.accepted-good
 
-pub assemble-accepts : (b : Buffers) (s : List ℕ) (r : Assembling.Answer) (x : Buffers) (o : Object) → Assembled b s r x → called b s ≡ ok o → Accepting.Accepted b r x o
+pub assemble-accepts : (b : Buffers) (s : List ℕ) (r : Assembling.Answer) (x : Buffers) (o : Object) → Assembled b s r x → called b s ≡ ok o → AcceptedCall b r x o
 assemble-accepts = Accepting.accepted-call
 
 pub assemble-refuses : (b : Buffers) (s : List ℕ) (r : Assembling.Answer) (x : Buffers) (q : Refusal) → Assembled b s r x → called b s ≡ refused q → x ≡ layout nothing b
@@ -259,7 +260,7 @@ lc3-disassemble-one-answer w x y p q = p ∙ sym q
 pub lc3-assemble-one-answer : (b : Buffers) (s x y : List ℕ) → x ≡ numbers (answer (called b s)) → y ≡ numbers (answer (called b s)) → x ≡ y
 lc3-assemble-one-answer b s x y p q = p ∙ sym q
 
-pub lc3-assemble-one-object : (b : Buffers) (s : List ℕ) (x y : Buffers) → x ≡ left (called b s) b → y ≡ left (called b s) b → x ≡ y
+pub lc3-assemble-one-object : (b : Buffers) (s : List ℕ) (x y : Buffers) → x ≡ leftObject (called b s) b → y ≡ leftObject (called b s) b → x ≡ y
 lc3-assemble-one-object b s x y p q = p ∙ sym q
 
 pub lc3-list-one-answer : (c : Counts) (b : Buffers) (len : ℕ) (t u x y : List ℕ) → ListCall c b len t x → ListCall c b len u y → x ≡ y

@@ -2,17 +2,17 @@
 use Prim.Native.Nat.{ℕ, zero, suc, _+_, _-_, _≤_, _<_}
 use mathlib.Core.Path.{_≡_, refl, sym, _∙_, ap}
 use mathlib.Core.Bool.{Bool, true, false}
-use mathlib.Core.List.{List, [], _∷_, _++_}
+use mathlib.Core.List.{List, [], _∷_}
 use mathlib.Core.Option.{Option, none, some}
 use native.Mathlib.Omega.{arith}
-use lib.Dec.{eqb}
 use lib.ListN.{length}
 use borrow.Author.Tests.{eqb-true, ne-eqb}
-use Rattle.rules.specs.Base.{if_then_else_, Outcome, ok, refused, Refusal, Span, span, has}
-use Rattle.rules.specs.Tokens.{Token, tokenIn, Kind, number, register, mark, word, directive, text, nextToken}
-use Rattle.rules.specs.Statements.{Name, isMark, asLabel, asWord, asName, nameAt, tokenIs, stopAt, walk, pastLines, pastColon, labelAt, pastLabel, labelsFrom, labelsAt, pastLabels}
+use Rattle.rules.specs.Base.{if_then_else_, Outcome, ok, refused, Refusal, Span, has}
+use Rattle.rules.specs.Tokens.{Token, Kind, number, register, mark, word, directive, text, nextToken}
+use Rattle.rules.specs.Statements.{Name, isMark, asLabel, asWord, asName, nameAt, tokenIs, stopAt, pastLines, pastColon, labelAt, pastLabel, labelsFrom, labelsAt, pastLabels}
 use Rattle.rules.proofs.Next.{next-induction}
 use Rattle.rules.proofs.Walking.{Grows, walk-on, walk-done, walk-ge, walk-le}
+use Rattle.rules.proofs.Bools.{never}
 
 -- the token at i, where it is one and not the source's end, ends past i and inside
 pub record Ends (n i : ℕ) (t : Token) : Type 0 where
@@ -33,7 +33,7 @@ stops : (s : List ℕ) (i : ℕ) → Stops (length s) i (nextToken s i)
 unfolding isMark
 stops s =
     next-induction s (λ i o. Stops (length s) i o)
-    (λ i h. record { least = omega arith; more = λ e. (let z : _≡_ {A = ℕ} 0 1 = cc in absurd (omega arith)); most = λ e. (let z : _≡_ {A = ℕ} 0 1 = cc in absurd (omega arith)); inside = λ q. q })
+    (λ i h. record { least = omega arith; more = λ e. (never cc); most = λ e. (never cc); inside = λ q. q })
     (λ i n k h e l u w. record { least = omega arith; more = λ e. omega arith; most = λ e. u; inside = λ q. u })
     (λ i n m h e l u. tt)
     (λ i n h e l u q. weaken (length s) i (i + n) (nextToken s (i + n)) (omega arith) u q)
@@ -72,7 +72,7 @@ passed p f s i e = go (nextToken s i) refl e
   where
     go : (o : Outcome Token) → nextToken s i ≡ o → _≡_ {A = Bool} (elim o [ ok t ↦ p (t .kind) | refused r ↦ false ]) true → (i < elim o as (λ x. ℕ) [ ok t ↦ t .place .stop | refused r ↦ i ]) × (elim o as (λ x. ℕ) [ ok t ↦ t .place .stop | refused r ↦ i ] ≤ length s)
     go (ok t) q h = let u = token-ends s i t q in (u .more (f (t .kind) h), u .most (f (t .kind) h))
-    go (refused r) q h = let z : _≡_ {A = ℕ} 0 1 = cc in absurd (omega arith)
+    go (refused r) q h = never cc
 
 -- NEWLINES
 line-grows : (s : List ℕ) → Grows (tokenIs (isMark 10) s) (stopAt s) (length s)
@@ -126,7 +126,7 @@ label-word (register x) p n e = refl
 label-word (word t) p n e = refl
 label-word (directive t) p n e = refl
 label-word (text t) p n e = refl
-label-word (mark c) p n e = let z : _≡_ {A = ℕ} 0 1 = cc in absurd (omega arith)
+label-word (mark c) p n e = never cc
 
 pub name-token : (s : List ℕ) (i : ℕ) (t : Token) → nextToken s i ≡ ok t → nameAt s i ≡ asName (t .kind) (t .place)
 unfolding nameAt
@@ -142,7 +142,7 @@ named-in s i n e = go (nextToken s i) refl e
   where
     go : (o : Outcome Token) → nextToken s i ≡ o → _≡_ {A = Option Name} (elim o [ ok t ↦ asName (t .kind) (t .place) | refused r ↦ none ]) (some n) → (i < elim o as (λ x. ℕ) [ ok t ↦ t .place .stop | refused r ↦ i ]) × (elim o as (λ x. ℕ) [ ok t ↦ t .place .stop | refused r ↦ i ] ≤ length s)
     go (ok t) q h = let u = token-ends s i t q in let w = label-word (t .kind) (t .place) n h in (u .more w, u .most w)
-    go (refused r) q h = let z : _≡_ {A = ℕ} 0 1 = cc in absurd (omega arith)
+    go (refused r) q h = never cc
 
 module _ (s : List ℕ) (i : ℕ) where
   pub label-in : (n : Name) → nameAt s (pastLines s i) ≡ some n → (i < pastLabel s i) × (pastLabel s i ≤ length s)
@@ -168,7 +168,7 @@ label-grows s = record { on = λ i e. found i e .0; to = λ i e. found i e .1 }
     found i e = go (nameAt s (pastLines s i)) refl e
       where
         go : (o : Option Name) → nameAt s (pastLines s i) ≡ o → has o ≡ true → (i < pastLabel s i) × (pastLabel s i ≤ length s)
-        go none q h = let z : _≡_ {A = ℕ} 0 1 = cc in absurd (omega arith)
+        go none q h = never cc
         go (some n) q h = label-in s i n q
 
 -- the names, whatever count is large enough

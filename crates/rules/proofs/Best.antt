@@ -1,13 +1,13 @@
 -- What `best` does row by row, and that only the rows which can begin with the first byte take part. Assumes nothing.
-use Prim.Native.Nat.{ℕ, zero, suc, _+_, _≤_, _<_}
+use Prim.Native.Nat.{ℕ, _≤_, _<_}
 use mathlib.Core.Path.{_≡_, refl, ap, sym, _∙_}
-use mathlib.Core.Bool.{Bool, true, false, not, _||_}
+use mathlib.Core.Bool.{Bool, true, false, not}
 use mathlib.Core.List.{List, [], _∷_}
 use mathlib.Core.Option.{Option, none, some}
 use native.Mathlib.Omega.{arith}
 use borrow.Author.Tests.{lt-ltb, le-ltb}
-use lib.Dec.{T, ltb, eqb}
-use lib.ListN.{length, take, drop}
+use lib.Dec.{ltb}
+use lib.ListN.{take, drop}
 use Rattle.rules.specs.Base.{if_then_else_}
 use Rattle.rules.specs.Regex.{Regex, null, after, dead, longest}
 use Rattle.rules.specs.Patterns.{Row, best}

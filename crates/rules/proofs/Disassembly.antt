@@ -7,30 +7,31 @@ use mathlib.Core.Option.{Option, none, some}
 use mathlib.Core.Path.{_≡_, refl, ap, sym, subst, _∙_}
 use lib.Dec.{eqb, leb, ltb}
 use lib.ListN.{getD}
-use borrow.Author.Tests.{le-ltb, lt-ltb, le-leb, leb-true, leb-false, eq-eqb, eqb-true, eqb-false, ne-eqb}
-use Rattle.rules.specs.Base.{if_then_else_, bytes, same}
-use Rattle.rules.specs.Words.{Range, signed, unsigned, Field, reg, regOrImm, num, near, DR, SR, instructions, find, fits, field, extend, Operand, register, value, Instr, ADD, AND, NOT, BR, JMP, JSRR, JSR, NOP, LD, LDI, LEA, ST, STI, LDR, STR, TRAP, RET, RTI, GETC, OUT, PUTC, PUTS, IN, PUTSP, HALT, bits, _⊕_, joined, made, branch, word, cases, at9, at6, low, last, trap, jump, equals, exactly, disassemble, Shown, itself, out, ret, getc, putc, puts, in′, putsp, halt, nop, br}
-use Rattle.rules.proofs.Fields.{by-test, Width, field-below, extend-field, field-unsigned, below-unsigned}
+use borrow.Author.Tests.{le-ltb, lt-ltb, le-leb, leb-true, eq-eqb, eqb-true, eqb-false, ne-eqb}
+use Rattle.rules.specs.Base.{if_then_else_, same}
+use Rattle.rules.specs.Words.{Range, signed, unsigned, Field, reg, regOrImm, num, near, DR, SR, instructions, find, fits, field, extend, Operand, register, value, Instr, ADD, AND, NOT, BR, JMP, JSRR, JSR, NOP, LD, LDI, LEA, ST, STI, LDR, STR, TRAP, RET, RTI, GETC, OUT, PUTC, PUTS, IN, PUTSP, HALT, bits, _⊕_, joined, made, branch, word, cases, at9, at6, low, last, trap, equals, exactly, disassemble, Shown, itself, out, ret, getc, putc, puts, in′, putsp, halt, nop, br, Width}
+use Rattle.rules.proofs.Fields.{by-test, field-below, extend-field, field-unsigned, below-unsigned}
+use Rattle.rules.proofs.Bools.{never}
 
 -- disassembling a word to an instruction and encoding that gives the word
 equal : (o : Option ℕ) (w : ℕ) → equals o w ≡ true → o ≡ some w
 unfolding equals
-equal none w e = let z : _≡_ {A = ℕ} 0 1 = cc in absurd (omega arith)
+equal none w e = never cc
 equal (some v) w e = ap some (eqb-true v w e)
 
 exact : (w : ℕ) (c : Option Instr) (i : Instr) → exactly w c ≡ some i → word i ≡ some w
 unfolding exactly if_then_else_
-exact w none i e = let z : _≡_ {A = ℕ} 0 1 = cc in absurd (omega arith)
+exact w none i e = never cc
 exact w (some j) i e = same (equals (word j) w) refl e where
   same : (t : Bool) → equals (word j) w ≡ t → (if t then some j else none) ≡ some i → word i ≡ some w
   same true q e = let k : j ≡ i = cc in ap word (sym k) ∙ equal (word j) w q
-  same false q e = let z : _≡_ {A = ℕ} 0 1 = cc in absurd (omega arith)
+  same false q e = never cc
 
 pub disassembled-encodes : (w : ℕ) (i : Instr) → disassemble w ≡ some i → word i ≡ some w
 unfolding disassemble if_then_else_
 disassembled-encodes w i e = above (ltb w 512) e where
   above : (t : Bool) → (if t then none else exactly w (getD (cases w) (w / 4096) none)) ≡ some i → word i ≡ some w
-  above true e = let z : _≡_ {A = ℕ} 0 1 = cc in absurd (omega arith)
+  above true e = never cc
   above false e = exact w (getD (cases w) (w / 4096) none) i e
 
 -- one operand of an instruction's word: it fits, and the rest goes on with its bits added
@@ -277,7 +278,7 @@ branch-shows (suc (suc (suc (suc zero)))) o w e = branched 4 o w (omega arith) (
 branch-shows (suc (suc (suc (suc (suc zero))))) o w e = branched 5 o w (omega arith) (omega arith) e e
 branch-shows (suc (suc (suc (suc (suc (suc zero)))))) o w e = branched 6 o w (omega arith) (omega arith) e e
 branch-shows (suc (suc (suc (suc (suc (suc (suc zero))))))) o w e = branched 7 o w (omega arith) (omega arith) e e
-branch-shows (suc (suc (suc (suc (suc (suc (suc (suc n)))))))) o w e = let z : _≡_ {A = ℕ} 0 1 = cc in absurd (omega arith)
+branch-shows (suc (suc (suc (suc (suc (suc (suc (suc n)))))))) o w e = never cc
 
 -- a trap by its number
 numbered : (v u w x : ℕ) → v ≡ u → w ≡ x → Shown (TRAP u) (disassemble x) → Shown (TRAP v) (disassemble w)
@@ -375,7 +376,7 @@ branch-word (suc (suc (suc (suc zero)))) o w e = low-word 2048 o w (omega arith)
 branch-word (suc (suc (suc (suc (suc zero))))) o w e = low-word 2560 o w (omega arith) e
 branch-word (suc (suc (suc (suc (suc (suc zero)))))) o w e = low-word 3072 o w (omega arith) e
 branch-word (suc (suc (suc (suc (suc (suc (suc zero))))))) o w e = low-word 3584 o w (omega arith) e
-branch-word (suc (suc (suc (suc (suc (suc (suc (suc n)))))))) o w e = let z : _≡_ {A = ℕ} 0 1 = cc in absurd (omega arith)
+branch-word (suc (suc (suc (suc (suc (suc (suc (suc n)))))))) o w e = never cc
 
 trap-word : (v w : ℕ) → joined (some 0xf000) (num (unsigned 8) ∷ []) (value v ∷ []) ≡ some w → w < 65536
 trap-word v w e =

@@ -4,15 +4,15 @@ use native.Mathlib.Nat.{mod-lt, mod-eq-of-lt, add-mul-mod-self-right, mod-self, 
 use native.Mathlib.Omega.{arith}
 use mathlib.Core.Bool.{Bool, true, false, _||_, _&&_}
 use mathlib.Core.Logic.{_⊎_, inl, inr, ⊎-elim}
-use mathlib.Core.Option.{Option, some}
-use mathlib.Core.Path.{_≡_, refl, ap, sym, subst, _∙_}
+use mathlib.Core.Option.{some}
+use mathlib.Core.Path.{_≡_, refl, ap, sym, _∙_}
 use lib.Dec.{leb, ltb}
 use lib.Pow.{pow-pos, high-ones, pow-mono}
-use borrow.Author.Tests.{lt-ltb, le-ltb, le-leb, lt-leb, leb-true, leb-false, ltb-true, ltb-false}
+use borrow.Author.Tests.{lt-ltb, le-ltb, le-leb, lt-leb, leb-true, ltb-true, ltb-false}
 use Rattle.rules.specs.Base.{if_then_else_}
 use Rattle.rules.specs.Tokens.{Num, plus, minus}
 use Rattle.rules.specs.Statements.{inRange, reduced}
-use Rattle.rules.specs.Words.{Range, signed, unsigned, num, offset, fits, field, extend, value, bits}
+use Rattle.rules.specs.Words.{Range, signed, unsigned, num, offset, fits, field, extend, value, bits, Width}
 use Rattle.rules.proofs.Bools.{and-left, and-right}
 
 -- a test with its answer
@@ -48,11 +48,6 @@ fits-below r d h l = rw (le-leb _ _ h, lt-ltb d 65536 l) (or-right (leb d (r .hi
 pub fits-not : (r : Range) (d : ℕ) → r .high < d → d < 65536 - r .low → fits r d ≡ false
 unfolding fits
 fits-not r d h l = rw (lt-leb d (r .high) h, lt-leb (65536 - r .low) d l)
-
--- a width from 1 to 16
-pub record Width (w : ℕ) : Type 0 where
-  pub least : 1 ≤ w
-  pub most : w ≤ 16
 
 module _ (w : ℕ) (ok : Width w) where
   -- a field's numbers are two halves

@@ -1,20 +1,20 @@
 -- The table's longest match by the first byte: what it is and how long, case by case. Assumes nothing.
-use Prim.Native.Nat.{ℕ, zero, suc, _+_, _≤_, _<_}
+use Prim.Native.Nat.{ℕ, _+_, _≤_, _<_}
 use mathlib.Core.Path.{_≡_, refl, ap, sym, _∙_}
 use mathlib.Core.Bool.{Bool, true, false, not, _&&_, _||_}
 use mathlib.Core.Logic.{⊎-elim}
 use mathlib.Core.List.{List, [], _∷_, map}
-use mathlib.Core.Option.{Option, none, some}
+use mathlib.Core.Option.{none, some}
 use native.Mathlib.Nat.{zero-add}
 use native.Mathlib.Omega.{arith}
 use borrow.Author.Tests.{eqb-true, not-true, not-false}
-use lib.Dec.{T, eqb, ltb}
+use lib.Dec.{eqb, ltb}
 use lib.ListN.{length, take, drop, length-take}
 use lib.Seq.{drop-drop}
-use Rattle.rules.specs.Base.{if_then_else_, is, within}
+use Rattle.rules.specs.Base.{if_then_else_, is}
 use Rattle.rules.specs.Regex.{Regex, fail, empty, byte, _then_, _or_, star, null, after, longest, longestFrom, matching}
-use Rattle.rules.specs.Patterns.{c1, or1, d, w*, maybe, some1, best, tokenBy}
-use Rattle.rules.specs.Tokens.{Match, match, Found, token, word, bad, while, begins, wordy, digit, letter, upper, value, read, dec, numberAfter, wrongAfter, wordAt, afterX, afterMinus, afterHash, afterR, reg, blank, mark, space, directive, directiveAfter, afterQuote, decNeg, hex, hexNeg, lexing}
+use Rattle.rules.specs.Patterns.{c1, or1, d, w*, maybe, some1, best}
+use Rattle.rules.specs.Tokens.{Match, match, Found, token, word, bad, while, begins, wordy, digit, letter, upper, value, read, dec, numberAfter, wrongAfter, wordAt, afterX, afterMinus, afterHash, afterR, reg, blank, mark, space, directive, directiveAfter, afterQuote, decNeg, hex, hexNeg}
 use Rattle.rules.proofs.Regex.{longest-right}
 use Rattle.rules.proofs.Shapes.{star-no, star-long, class-star, class2-star, class-plus, class-one, one-of, class-maybe, maybe-apart}
 use Rattle.rules.proofs.Best.{row-none, row-more, row-less, rows-end}

@@ -1,16 +1,16 @@
 -- The layout of a good object, in buffers that hold it, passes what 43 demands. Assumes nothing.
 use mathlib.Core.Path.{_≡_, refl, sym, _∙_, ap}
 use mathlib.Core.Bool.{Bool, true, false, _&&_, _||_}
-use mathlib.Core.Option.{Option, none, some}
-use mathlib.Core.List.{List, [], _∷_, _++_, map, List·Memᴰ, List·Memᴰ·head, List·Memᴰ·tail}
+use mathlib.Core.Option.{some}
+use mathlib.Core.List.{List, [], _∷_, map, List·Memᴰ, List·Memᴰ·head, List·Memᴰ·tail}
 use Prim.Native.Nat.{ℕ, zero, suc, _+_, _-_, _*_, _≤_, _<_, suc-le-suc, zero-le}
 use native.Mathlib.Nat.{not-suc-le-zero, le-of-suc-le-suc}
 use native.Mathlib.Omega.{arith}
 use lib.Dec.{ltb, leb}
-use lib.ListN.{length, take, drop, getD, length-append}
+use lib.ListN.{length, getD, length-append}
 use borrow.Author.Tests.{ltb-true, ltb-false, leb-true}
 use Rattle.rules.specs.Base.{if_then_else_}
-use Rattle.rules.specs.Tables.{Table, look, Sorted, natOrder, nameOrder}
+use Rattle.rules.specs.Tables.{Table, natOrder, nameOrder}
 use Rattle.rules.specs.Objects.{Cell, unset, word, Lab, outer, defined, addressOf, Name, Object, Counts, countsOf, flat, cells, heads, cellAt, labOf, relAt, labelToken, goodName, Good, Full}
 use Rattle.rules.specs.Buffers.{Buffers, short, least, lentWords, tab, lay, headRow, nameRow, labelRow, relocRow, view, viewRelocs, headCells, wordOf, markOf, flagOf, nameBytes, labelCells, rowOf, relocCells, layBlocks, layWords, layMarks, layLabels, layRelocs, layNames, layout, endOf, BlockRow, BlocksOk, WordRow, WordsOk, LabelRow, LabelsOk, RelocRow, RelocsOk, Valid}
 use Rattle.rules.proofs.Rows.{length-lay, getD-tab, tab-getD, look-tab, getD-lay, tab-sorted}
@@ -18,6 +18,7 @@ use Rattle.rules.proofs.Laid.{heads-back, length-heads, labels-back, re
 use Rattle.rules.proofs.Runs.{From}
 use Rattle.rules.proofs.Chains.{Chain, cells-chain, in-held, total}
 use Rattle.rules.proofs.Sound.{total-tab, valid-good, valid-counts}
+use Rattle.rules.proofs.Bools.{never}
 
 -- the buffers hold it
 pub record Holds (o : Object) (b : Buffers) : Type 0 where
@@ -35,7 +36,7 @@ Ends bs = (d : ℕ × List Cell) → List·Memᴰ d bs → d .0 + length (d .1) 
 
 rows-chain : (n : ℕ) (h : ℕ → ℕ × ℕ) (y : ℕ) (bs : Table ℕ (List Cell)) → tab n h ≡ heads bs → Chain y bs → Ends bs → (k : ℕ) → k < n → BlockRow y h k
 rows-chain zero h y bs e c f k l = absurd (not-suc-le-zero l)
-rows-chain (suc n) h y [] e c f k l = let z : _≡_ {A = ℕ} 0 1 = cc in absurd (omega arith)
+rows-chain (suc n) h y [] e c f k l = never cc
 rows-chain (suc n) h y (b ∷ bs) e c f zero l =
     let q : h 0 ≡ (b .0, length (b .1)) = cc in
     record { after = rw q (c .0); filled = rw q (c .1); low = rw q (f b (List·Memᴰ·head refl)) }
@@ -226,7 +227,7 @@ relocs-ok o b w q = record {
 -- WHICH BUFFERS HOLD IT: those that 42 lets pass, with as many lent words as the object has
 
 neither : (p q : Bool) → (p || q) ≡ false → (p ≡ false) × (q ≡ false)
-neither true q e = let z : _≡_ {A = ℕ} 0 1 = cc in absurd (omega arith)
+neither true q e = never cc
 neither false q e = (refl, e)
 
 pub least-left : (m n : ℕ) → least m n ≤ m
@@ -247,7 +248,7 @@ least-right m n = go (ltb m n) refl
 
 both-right : (p q : Bool) → (p && q) ≡ true → q ≡ true
 both-right true q e = e
-both-right false q e = let z : _≡_ {A = ℕ} 0 1 = cc in absurd (omega arith)
+both-right false q e = never cc
 
 pub good-length : (n : Name) → goodName n ≡ true → length n ≤ 64
 unfolding goodName

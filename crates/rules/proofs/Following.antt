@@ -10,8 +10,9 @@ use lib.ListN.{length}
 use Rattle.rules.specs.Base.{if_then_else_, Outcome, ok, refused, Refusal, refuse, require, _>>=_, Span}
 use Rattle.rules.specs.Tokens.{Token, Kind, number, register, mark, word, directive, text, nextToken}
 use Rattle.rules.specs.Words.{Field, Row, find, instructions, directives}
-use Rattle.rules.specs.Statements.{Name, Stmt, Piece, bits, target, chars, Given, bare, add, isMark, asWord, asDirective, need, operand, ends, tokenIs, pastLines, labelsAt, pastLabels, operandAt, commaAt, moreFrom, operandsFrom, lineEnd, Read, read, stmt, rowRead, instrRead, tokenRead, nextStatement, statementsFrom, statementsAt, statements}
-use Rattle.rules.proofs.Ahead.{Ends, token-ends, lines-ge, labels-ge}
+use Rattle.rules.specs.Statements.{Name, Stmt, Piece, bits, target, chars, Given, bare, add, isMark, asWord, asDirective, need, operand, ends, tokenIs, pastLines, labelsAt, pastLabels, operandAt, commaAt, moreFrom, operandsFrom, lineEnd, Read, read, stmt, rowRead, instrRead, tokenRead, nextStatement, statementsFrom, statementsAt, GoesOn}
+use Rattle.rules.proofs.Ahead.{token-ends, lines-ge, labels-ge}
+use Rattle.rules.proofs.Bools.{never}
 
 -- a stage that gave something: what the stage before gave
 pub record Gave {A B : Type 0} (o : Outcome A) (f : A → Outcome B) (b : B) : Type 0 where
@@ -21,7 +22,7 @@ pub record Gave {A B : Type 0} (o : Outcome A) (f : A → Outcome B) (b : B) : T
 
 pub gave : {A B : Type 0} (o : Outcome A) (f : A → Outcome B) (b : B) → (o >>= f) ≡ ok b → Gave o f b
 gave (ok a) f b e = record { given′ = a; first = refl; then′ = e }
-gave (refused r) f b e = let z : _≡_ {A = ℕ} 0 1 = cc in absurd (omega arith)
+gave (refused r) f b e = never cc
 
 -- at j, not before i, inside n
 pub record Moved (n i j : ℕ) : Type 0 where
@@ -50,7 +51,7 @@ module _ (s : List ℕ) where
 
   marked : (b : Bool) (n : ℕ) (p : Span) (i j : ℕ) → (require b n p >>= λ x. ok i) ≡ ok j → i ≡ j
   marked true n p i j e = cc
-  marked false n p i j e = let z : _≡_ {A = ℕ} 0 1 = cc in absurd (omega arith)
+  marked false n p i j e = never cc
 
   comma-moves : (i j : ℕ) → i ≤ length s → commaAt s i ≡ ok j → Moved (length s) i j
   unfolding commaAt
@@ -113,7 +114,7 @@ module _ (s : List ℕ) where
   unfolding asWord isMark
   kind-real (number n) w e = refl
   kind-real (register n) w e = refl
-  kind-real (mark c) w e = let z : _≡_ {A = ℕ} 0 1 = cc in absurd (omega arith)
+  kind-real (mark c) w e = never cc
   kind-real (word t) w e = refl
   kind-real (directive t) w e = refl
   kind-real (text t) w e = refl
@@ -122,7 +123,7 @@ module _ (s : List ℕ) where
   unfolding asDirective isMark
   kind-dot (number n) w e = refl
   kind-dot (register n) w e = refl
-  kind-dot (mark c) w e = let z : _≡_ {A = ℕ} 0 1 = cc in absurd (omega arith)
+  kind-dot (mark c) w e = never cc
   kind-dot (word t) w e = refl
   kind-dot (directive t) w e = refl
   kind-dot (text t) w e = refl
@@ -132,16 +133,16 @@ module _ (s : List ℕ) where
   token-begun ls t x e = by-dot (asDirective (t .kind)) refl e
     where
       by-row : (d : List ℕ) → asDirective (t .kind) ≡ some d → (o : Option Row) → need o 13 (t .place) (λ r. rowRead s ls r t (r .fields) 14) ≡ ok (some x) → Begun t x
-      by-row d q none h = let z : _≡_ {A = ℕ} 0 1 = cc in absurd (omega arith)
+      by-row d q none h = never cc
       by-row d q (some r) h = record { real = kind-dot (t .kind) d q; moved = λ l. row-moves ls r t (r .fields) 14 x l h }
 
       by-find : (w : List ℕ) → asWord (t .kind) ≡ some w → (o : Option Row) → _≡_ {A = Outcome (Option Read)} (elim o [ some r ↦ instrRead s ls r t | none ↦ refuse 16 (t .place) ]) (ok (some x)) → Begun t x
-      by-find w q none h = let z : _≡_ {A = ℕ} 0 1 = cc in absurd (omega arith)
+      by-find w q none h = never cc
       by-find w q (some r) h = record { real = kind-real (t .kind) w q; moved = λ l. instr-begun ls r t x h l }
 
       by-end : (b : Bool) → (if b then ok none else refuse 13 (t .place)) ≡ ok (some x) → Begun t x
-      by-end true h = let z : _≡_ {A = ℕ} 0 1 = cc in absurd (omega arith)
-      by-end false h = let z : _≡_ {A = ℕ} 0 1 = cc in absurd (omega arith)
+      by-end true h = never cc
+      by-end false h = never cc
 
       by-word : (o : Option (List ℕ)) → asWord (t .kind) ≡ o → _≡_ {A = Outcome (Option Read)} (elim o [
         | some w ↦ elim (find w instructions) [ some r ↦ instrRead s ls r t | none ↦ refuse 16 (t .place) ]
@@ -161,11 +162,7 @@ module _ (s : List ℕ) where
       by-dot (some d) q h = by-row d q (find d directives) h
 
   -- A STATEMENT GOES ON, AND NOT PAST THE SOURCE
-  pub record Goes (i : ℕ) (x : Read) : Type 0 where
-    pub on : i < x .next
-    pub in′ : x .next ≤ length s
-
-  pub statement-goes : (i : ℕ) (x : Read) → nextStatement s i ≡ ok (some x) → Goes i x
+  pub statement-goes : (i : ℕ) (x : Read) → nextStatement s i ≡ ok (some x) → GoesOn s i x
   unfolding nextStatement
   statement-goes i x e =
       let j : ℕ = pastLines s (pastLabels s i) in

@@ -1,5 +1,5 @@
 -- How a list begins: `begins` and `while` beside each other. Assumes nothing.
-use Prim.Native.Nat.{ℕ, zero, suc, _+_, _<_, _≤_}
+use Prim.Native.Nat.{ℕ, zero, suc, _+_, _<_}
 use mathlib.Core.Path.{_≡_, refl, ap, sym, _∙_}
 use mathlib.Core.Bool.{Bool, true, false, not}
 use mathlib.Core.List.{List, [], _∷_}
@@ -9,6 +9,7 @@ use lib.Dec.{eqb, eqb·suc-zero}
 use lib.ListN.{length, take, drop}
 use Rattle.rules.specs.Tokens.{while, begins}
 use Rattle.rules.proofs.While.{yes-cons, no-cons}
+use Rattle.rules.proofs.Bools.{never}
 
 -- the part that `while` reads, cut out again: after n bytes
 take-while : (p : ℕ → Bool) (s : List ℕ) → take (length (while p s)) s ≡ while p s
@@ -56,7 +57,7 @@ module _ (p q : ℕ → Bool) where
 
   pub while-longer : ((x : ℕ) → p x ≡ true → q x ≡ true) → (s : List ℕ) → begins q (drop (length (while p s)) s) ≡ true → length (while p s) < length (while q s)
   unfolding while begins
-  while-longer h [] e = let z : _≡_ {A = ℕ} 0 1 = cc in absurd (omega arith)
+  while-longer h [] e = never cc
   while-longer h (x ∷ s) e = go (p x) refl (while-longer h s) e
     where
       go :
@@ -73,7 +74,7 @@ module _ (p : ℕ → Bool) where
 
   pub while-one : (s : List ℕ) → begins p s ≡ true → length (while p s) ≡ 1 + length (while p (drop 1 s))
   unfolding while begins
-  while-one [] e = let z : _≡_ {A = ℕ} 0 1 = cc in absurd (omega arith)
+  while-one [] e = never cc
   while-one (x ∷ s) e = rw (yes-cons p x s e) (omega arith)
 
   pub begins-count : (s : List ℕ) → begins p s ≡ not (eqb (length (while p s)) 0)

@@ -1,17 +1,17 @@
 -- The view of an object's layout is the object. Assumes nothing.
 use mathlib.Core.Path.{_≡_, refl, sym, _∙_, ap}
-use mathlib.Core.Option.{Option, none, some}
+use mathlib.Core.Option.{some}
 use mathlib.Core.List.{List, [], _∷_, _++_, map, append-assoc}
-use Prim.Native.Nat.{ℕ, zero, suc, _+_, _-_, _*_, _≤_, _<_, suc-le-suc, zero-le}
+use Prim.Native.Nat.{ℕ, zero, suc, _+_, _-_, _*_, _<_, suc-le-suc, zero-le}
 use native.Mathlib.Nat.{not-suc-le-zero, le-of-suc-le-suc}
 use native.Mathlib.Omega.{arith}
 use lib.ListN.{length, take, drop, getD, length-append}
 use lib.Seq.{take-append-seam, drop-append-seam, drop-at}
-use Rattle.rules.specs.Tables.{Table, Order, Tri, less, same, more, look, Sorted, pick, natOrder, nameOrder, Before}
-use Rattle.rules.specs.Objects.{Cell, unset, word, Lab, outer, defined, addressOf, Name, Object, Counts, countsOf, flat, cells, heads, cellAt, labOf, relAt, Good}
-use Rattle.rules.specs.Buffers.{tab, zeros, lay, Buffers, six, headRow, cellOf, cellRow, nameRow, labFrom, labRow, labelRow, relocRow, carve, viewBlocks, viewLabels, viewRelocs, view, headCells, wordOf, markOf, flagOf, nameBytes, labelCells, pickRow, rowOf, relocCells, layBlocks, layWords, layMarks, layLabels, layRelocs, layNames, layout}
+use Rattle.rules.specs.Tables.{Table, Tri, less, same, more, look, Sorted, pick, natOrder, nameOrder, Before}
+use Rattle.rules.specs.Objects.{Cell, unset, word, Lab, outer, defined, addressOf, Name, Object, countsOf, flat, heads, relAt, Good}
+use Rattle.rules.specs.Buffers.{tab, zeros, lay, Buffers, headRow, cellOf, cellRow, nameRow, labFrom, labelRow, relocRow, carve, viewBlocks, viewLabels, viewRelocs, view, headCells, wordOf, markOf, flagOf, nameBytes, labelCells, pickRow, rowOf, relocCells, layBlocks, layWords, layMarks, layLabels, layRelocs, layNames, layout}
 use Rattle.rules.proofs.Tables.{none-some}
-use Rattle.rules.proofs.Rows.{length-tab, getD-tab, tab-ext, tab-getD, look-tab, getD-lay}
+use Rattle.rules.proofs.Rows.{getD-tab, tab-ext, tab-getD, look-tab, getD-lay}
 
 -- BLOCKS
 

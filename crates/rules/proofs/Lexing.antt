@@ -1,13 +1,13 @@
 -- Reading on from a position: what a loop over the source needs of `tokensFrom`. Assumes nothing.
 use Prim.Native.Nat.{ℕ, zero, suc, _+_, _-_, _≤_, _<_}
-use mathlib.Core.Path.{_≡_, refl, ap, _∙_, sym}
+use mathlib.Core.Path.{_≡_, ap, _∙_}
 use mathlib.Core.List.{List, [], _∷_, _++_}
 use native.Mathlib.Nat.{add-zero, le-of-suc-le-suc, not-suc-le-zero}
 use native.Mathlib.Numerals.{add-one}
 use native.Mathlib.Omega.{arith}
 use lib.ListN.{length, drop, getD, length-drop}
 use lib.Seq.{drop-cons, drop-drop}
-use Rattle.rules.specs.Base.{Outcome, ok, refused, _>>=_, Span, span}
+use Rattle.rules.specs.Base.{Outcome, ok, _>>=_, span}
 use Rattle.rules.proofs.Sizes.{Within, token-within}
 use Rattle.rules.specs.Tokens.{Token, Match, tokenAt, kept, tokensFrom}
 

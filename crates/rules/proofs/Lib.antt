@@ -1,3 +1,4 @@
+-- Laws that the proofs of `rules` cite. Assumes nothing.
 pub mod Bools
 pub mod Run
 pub mod Bytes
@@ -24,9 +25,12 @@ pub mod Sound
 pub mod Fits
 pub mod Plain
 pub mod Named
+pub mod GoodNames
 pub mod Fields
 pub mod Disassembly
 pub mod Walking
 pub mod Ahead
 pub mod Following
 pub mod Walk
+pub mod Calls
+pub mod Pinned

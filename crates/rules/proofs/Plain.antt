@@ -7,8 +7,8 @@ use native.Mathlib.Omega.{arith}
 use lib.ListN.{length, take, drop, getD, length-drop}
 use lib.Seq.{take-add, take-suc, take-length}
 use Rattle.rules.specs.Tables.{Table, Tri, less, same, more, Sorted, nameOrder, Before}
-use Rattle.rules.specs.Objects.{Cell, unset, word, Lab, Name, Object, Counts, flat, heads}
-use Rattle.rules.specs.Buffers.{Buffers, tab, lay, headRow, cellOf, cellRow, nameRow, labelRow, relocRow, carve, viewBlocks, viewLabels, viewRelocs, view, headCells, wordOf, markOf, pickRow, rowOf, relocCells, layBlocks, layWords, layMarks, layRelocs, Valid}
+use Rattle.rules.specs.Objects.{Cell, Lab, Name, Counts, flat}
+use Rattle.rules.specs.Buffers.{Buffers, tab, lay, headRow, cellOf, cellRow, labelRow, relocRow, carve, viewBlocks, viewLabels, viewRelocs, view, headCells, wordOf, markOf, pickRow, rowOf, relocCells, layBlocks, layWords, layMarks, layRelocs, Valid}
 use Rattle.rules.proofs.Tables.{lt-ne}
 use Rattle.rules.proofs.Rows.{tab-suc, length-tab, sorted-tab, tab-sorted, up-lt}
 use Rattle.rules.proofs.Chains.{total, heads-carve}

@@ -1,10 +1,9 @@
 -- The reading by the table of lex.rs is the reading by hand, of every first byte and of a whole source. Assumes nothing.
 use Prim.Native.Nat.{ℕ, zero, suc, _+_, _-_, _<_}
 use mathlib.Core.Path.{_≡_, refl, ap, sym, _∙_}
-use mathlib.Core.Bool.{Bool, true, false, not, _&&_, _||_}
+use mathlib.Core.Bool.{Bool, true, false, _&&_}
 use mathlib.Core.Logic.{⊎-elim}
 use mathlib.Core.List.{List, [], _∷_, _++_}
-use native.Mathlib.Omega.{arith}
 use Rattle.rules.specs.Base.{if_then_else_, is, Outcome, ok, _>>=_, span}
 use Rattle.rules.specs.Patterns.{tokenBy, tokensByFrom, tokensBy}
 use Rattle.rules.specs.Tokens.{Match, match, bad, begins, digit, letter, space, upper, Token, kept, tokenAt, tokensFrom, tokens}

@@ -2,15 +2,15 @@
 use mathlib.Core.Path.{_≡_, refl, sym, _∙_, ap}
 use mathlib.Core.Logic.{_⊎_, inl, inr}
 use native.Mathlib.Decide.{decLt}
-use mathlib.Core.Option.{Option, none, some}
-use mathlib.Core.List.{List, [], _∷_, _++_, append-assoc}
+use mathlib.Core.Option.{none, some}
+use mathlib.Core.List.{List, [], _∷_, _++_}
 use Prim.Native.Nat.{ℕ, zero, suc, _+_, _-_, _≤_, _<_, suc-le-suc, zero-le}
 use native.Mathlib.Nat.{not-suc-le-zero, le-of-suc-le-suc}
 use native.Mathlib.Numerals.{add-one}
 use native.Mathlib.Omega.{arith}
-use lib.ListN.{length, take, drop, getD, replicate, length-append, length-replicate, replicate-append-replicate}
-use lib.Seq.{paste, take-at, drop-at, take-length, take-append-seam, drop-append-add}
-use Rattle.rules.specs.Tables.{Tri, less, same, more, Order, Table, pick, look, Low, Sorted}
+use lib.ListN.{length, drop, getD, length-append, length-replicate}
+use lib.Seq.{paste, take-length, take-append-seam, drop-append-add}
+use Rattle.rules.specs.Tables.{Tri, less, same, more, Order, pick, look, Low, Sorted}
 use Rattle.rules.specs.Buffers.{tab, Up, zeros, lay}
 use Rattle.rules.proofs.Tables.{look-here, look-there, lt-ne, none-some}
 

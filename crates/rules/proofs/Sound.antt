@@ -1,20 +1,21 @@
 -- Lent buffers that pass what 43 demands hold a good object, and their counts are the object's. Assumes nothing.
 use mathlib.Core.Path.{_≡_, refl, sym, _∙_, ap}
-use mathlib.Core.Bool.{Bool, true, false}
+use mathlib.Core.Bool.{true}
 use mathlib.Core.Logic.{_⊎_, inl, inr}
-use mathlib.Core.Option.{Option, none, some}
-use mathlib.Core.List.{List, [], _∷_, _++_, List·Memᴰ, List·Memᴰ·head, List·Memᴰ·tail}
+use mathlib.Core.Option.{some}
+use mathlib.Core.List.{List, [], _∷_, List·Memᴰ, List·Memᴰ·head, List·Memᴰ·tail}
 use Prim.Native.Nat.{ℕ, zero, suc, _+_, _-_, _*_, _≤_, _<_, suc-le-suc, zero-le}
 use native.Mathlib.Omega.{arith}
 use lib.ListN.{length, take, drop, getD, length-append, length-take, length-drop}
 use lib.Seq.{length-take-le}
 use Rattle.rules.specs.Tables.{Tri, less, same, more, Table, pick, look, Sorted, natOrder, nameOrder}
-use Rattle.rules.specs.Objects.{Cell, unset, word, Lab, outer, defined, Name, Object, Counts, countsOf, flat, cellsFrom, cells, heads, cellAt, labOf, relAt, goodName, Good, Full}
-use Rattle.rules.specs.Buffers.{Buffers, tab, Up, headRow, cellOf, cellRow, nameRow, labFrom, labRow, labelRow, relocRow, carve, viewBlocks, viewLabels, viewRelocs, view, endOf, BlockRow, sumOf, BlocksOk, WordsOk, LabelRow, LabelsOk, RelocRow, RelocsOk, Valid}
+use Rattle.rules.specs.Objects.{Cell, unset, word, Lab, outer, defined, Name, Counts, countsOf, flat, cellsFrom, cells, heads, cellAt, labOf, relAt, goodName, Good, Full}
+use Rattle.rules.specs.Buffers.{Buffers, tab, headRow, cellOf, cellRow, nameRow, labFrom, labRow, labelRow, relocRow, carve, viewBlocks, viewLabels, viewRelocs, view, BlockRow, sumOf, BlocksOk, LabelsOk, Valid}
 use Rattle.rules.proofs.Tables.{none-some}
 use Rattle.rules.proofs.Rows.{length-tab, look-tab, look-row, sorted-tab}
 use Rattle.rules.proofs.Runs.{look-append, or-split}
-use Rattle.rules.proofs.Chains.{Chain, chain-full, chain-cells, chain-heads, held-in, Within, total}
+use Rattle.rules.proofs.Chains.{Chain, chain-full, chain-cells, chain-heads, held-in, total}
+use Rattle.rules.proofs.Bools.{never}
 
 abbrev next : (ℕ → ℕ × ℕ) → ℕ → ℕ × ℕ
 next h k = h (suc k)
@@ -96,7 +97,7 @@ pub record LabelsGood (t : Table Name Lab) (n : ℕ) : Type 0 where
 
 address-low : (x f a : ℕ) → labFrom x f ≡ defined a → x < 65536 → a < 65536
 address-low x zero a e l = let q : x ≡ a = cc in omega arith
-address-low x (suc f) a e l = let z : _≡_ {A = ℕ} 0 1 = cc in absurd (omega arith)
+address-low x (suc f) a e l = never cc
 
 pub labels-good : (n : ℕ) (ls ns : List ℕ) → LabelsOk n ls ns → LabelsGood (viewLabels n ls ns) n
 unfolding viewLabels

@@ -10,9 +10,10 @@ use borrow.Author.Tests.{ne-eqb, lt-leb, le-leb, not-true, ltb-true, ltb-false}
 use Rattle.rules.specs.Base.{if_then_else_, is, within}
 use Rattle.rules.specs.Regex.{matching}
 use Rattle.rules.specs.Patterns.{Row, patterns, best, tokenBy}
-use Rattle.rules.specs.Tokens.{Match, match, bad, digit, letter, space, upper, value, wordy, lexing, tokenAt}
+use Rattle.rules.specs.Tokens.{match, bad, digit, letter, space, upper, value, wordy, lexing, tokenAt}
 use Rattle.rules.proofs.Best.{alive, masked, only-alive}
 use Rattle.rules.proofs.Run.{run, inRun}
+use Rattle.rules.proofs.Bools.{never}
 
 sameBools : List Bool → List Bool → Bool
 sameBools [] [] = true
@@ -35,7 +36,7 @@ sameBools-eq (false ∷ as′) (false ∷ bs) t = ap (λ (l : List Bool). false 
 
 implies : (a b : Bool) → a ≡ true → T (not a || b) → T b
 implies true b e t = t
-implies false b e t = let z : _≡_ {A = ℕ} 0 1 = cc in absurd (omega arith)
+implies false b e t = never cc
 
 T-true : (b : Bool) → T b → b ≡ true
 T-true true t = refl

@@ -1,15 +1,16 @@
 -- Laws of sorted tables: what is found, what an insertion and a merge give, and that two sorted tables that say the same are one. Assumes nothing.
 use mathlib.Core.Path.{_≡_, refl, sym, _∙_, ap}
 use mathlib.Core.Option.{Option, none, some}
-use mathlib.Core.List.{List, [], _∷_}
-use Prim.Native.Nat.{ℕ, zero, suc, _+_, _≤_, _<_}
+use mathlib.Core.List.{[], _∷_}
+use Prim.Native.Nat.{suc, _+_, _≤_}
 use native.Mathlib.Omega.{arith}
 use lib.ListN.{length}
 use Rattle.rules.specs.Tables.{Tri, less, same, more, Order, Table, pick, put, look, Low, Sorted, insert, merge}
+use Rattle.rules.proofs.Bools.{never}
 
 -- nothing is something
 pub none-some : {A : Type 0} {x : A} → _≡_ {A = Option A} none (some x) → ⊥
-none-some e = let z : _≡_ {A = ℕ} 0 1 = cc in omega arith
+none-some e = never cc
 
 pub lt-ne : {K : Type 0} (O : Order K) (a b : K) → O .lt a b → a ≡ b → ⊥
 lt-ne O a b h e = O .irr b (rw e at h)

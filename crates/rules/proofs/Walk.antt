@@ -13,6 +13,7 @@ use Rattle.rules.specs.Tokens.{Token, tokenIn, Kind, number, register, m
 use Rattle.rules.proofs.Lexing.{andThen, tokens-next}
 use Rattle.rules.proofs.Shown.{Tells}
 use Rattle.rules.proofs.Next.{next-induction}
+use Rattle.rules.proofs.Bools.{never}
 
 verdict-more : (t : List Token) (o : Outcome (List Token)) → verdict (o >>= λ ts. ok (t ++ ts)) ≡ verdict o
 unfolding verdict
@@ -26,11 +27,11 @@ verdict-seq (refused r) p = refl
 
 -- no token is the end of the source
 no-end : (l : List ℕ) (n : ℕ) (k : Kind) → Tells l n k → k ≡ mark 0 → ⊥
-no-end l n (number x) t e = let z : _≡_ {A = ℕ} 0 1 = cc in omega arith
-no-end l n (register x) t e = let z : _≡_ {A = ℕ} 0 1 = cc in omega arith
-no-end l n (word x) t e = let z : _≡_ {A = ℕ} 0 1 = cc in omega arith
-no-end l n (directive x) t e = let z : _≡_ {A = ℕ} 0 1 = cc in omega arith
-no-end l n (text x) t e = let z : _≡_ {A = ℕ} 0 1 = cc in omega arith
+no-end l n (number x) t e = never cc
+no-end l n (register x) t e = never cc
+no-end l n (word x) t e = never cc
+no-end l n (directive x) t e = never cc
+no-end l n (text x) t e = never cc
 no-end l n (mark c) (inl p) e = let z : c ≡ 0 = cc in omega arith
 no-end l n (mark c) (inr (inl p)) e = let z : c ≡ 0 = cc in omega arith
 no-end l n (mark c) (inr (inr p)) e = let z : c ≡ 0 = cc in omega arith

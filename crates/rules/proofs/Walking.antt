@@ -1,6 +1,6 @@
 -- Going on by a step while a test holds: where each step goes on and none past n, the count of steps shows nowhere else. Assumes nothing.
 use Prim.Native.Nat.{ℕ, zero, suc, _+_, _-_, _≤_, _<_}
-use mathlib.Core.Path.{_≡_, refl, sym, _∙_, ap}
+use mathlib.Core.Path.{_≡_, refl}
 use mathlib.Core.Bool.{Bool, true, false}
 use native.Mathlib.Omega.{arith}
 use Rattle.rules.specs.Statements.{walk}

@@ -1,7 +1,7 @@
 -- Section "Refusal numbers" of document 01: the answer of a call in numbers, and the names of the refusals. Assumes nothing.
 use Prim.Native.Nat.{ℕ}
 use Prim.Native.String.{String}
-use mathlib.Core.Bool.{Bool, true, false}
+use mathlib.Core.Bool.{true, false}
 use mathlib.Core.List.{List, [], _∷_}
 use lib.Dec.{eqb}
 use Rattle.rules.specs.Base.{Span, nowhere, Refusal, Outcome, ok, refused, bytes}

@@ -1,14 +1,14 @@
 -- An object in six lent buffers: what 42 and 43 demand of them, the object that stands in them, and the one layout in which an object is written. Assumes nothing.
 use mathlib.Core.Path.{_≡_}
-use mathlib.Core.Bool.{Bool, true, false, _&&_, _||_}
-use mathlib.Core.Option.{Option, none, some}
+use mathlib.Core.Bool.{Bool, true, _||_}
+use mathlib.Core.Option.{some}
 use mathlib.Core.List.{List, [], _∷_, _++_, map}
 use Prim.Native.Nat.{ℕ, zero, suc, _+_, _-_, _*_, _≤_, _<_}
 use lib.ListN.{length, take, drop, getD, replicate}
-use lib.Dec.{eqb, ltb}
+use lib.Dec.{ltb}
 use Rattle.rules.specs.Base.{if_then_else_}
 use Rattle.rules.specs.Capacities.{nameRoom, blockRoom, labelRoom, relocRoom, wordRoom}
-use Rattle.rules.specs.Tables.{Table, Order, Tri, less, same, more, look, Sorted, natOrder, nameOrder, Before}
+use Rattle.rules.specs.Tables.{Table, Order, Tri, less, same, more, look, natOrder, nameOrder, Before}
 use Rattle.rules.specs.Objects.{Cell, unset, word, Lab, outer, defined, addressOf, Name, Object, object, Counts, flat, cells, heads, goodName}
 
 -- The six buffers: blocks in rows (start, length); words; set marks, 1 set, 0 unset; labels in rows (address, external 0 or 1, name's start, name's length);

@@ -10,6 +10,7 @@ pub mod Words
 pub mod Tables
 pub mod Objects
 pub mod Buffers
+pub mod Calls
 pub mod Passes
 pub mod Linking
 pub mod Stored

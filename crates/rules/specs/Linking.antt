@@ -1,19 +1,19 @@
 -- Section "Linking" of document 01: two objects into a third. Assumes nothing.
 use Prim.Native.Nat.{ℕ, suc, _+_}
-use mathlib.Core.Bool.{Bool, true, false, _&&_, not}
+use mathlib.Core.Bool.{Bool, false, _&&_, not}
 use mathlib.Core.List.{List, [], _∷_}
 use mathlib.Core.Option.{Option, none, some}
 use lib.ListN.{length}
-use lib.Dec.{eqb, leb, ltb}
-use Rattle.rules.specs.Base.{Outcome, ok, refused, _>>=_, _>>_, require, span, nowhere}
+use lib.Dec.{eqb, leb}
+use Rattle.rules.specs.Base.{Outcome, ok, _>>=_, _>>_, require, span, nowhere}
 use Rattle.rules.specs.Capacities.{blockRoom, labelRoom, relocRoom}
 use Rattle.rules.specs.Tables.{Table, natOrder, nameOrder, look, merge, newer, mapT, sieve, any}
-use Rattle.rules.specs.Objects.{Cell, unset, word, Lab, outer, defined, Name, Object, object, Counts, countsOf}
-use Rattle.rules.specs.Passes.{overlap}
+use Rattle.rules.specs.Objects.{Cell, word, Lab, outer, defined, Name, Object, object, Counts, countsOf}
+use Rattle.rules.specs.Passes.{rangesOverlap}
 
 -- any shared address is 28
 unfoldable pub meets : ℕ × List Cell → ℕ × List Cell → Bool
-meets b c = overlap (b .0) (length (b .1)) (c .0) (length (c .1))
+meets b c = rangesOverlap (b .0) (length (b .1)) (c .0) (length (c .1))
 
 unfoldable pub shared : Object → Object → Bool
 shared a b = any (λ x. any (meets x) (b .blocks)) (a .blocks)

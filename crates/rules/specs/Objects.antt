@@ -3,14 +3,14 @@ use mathlib.Core.Path.{_≡_}
 use mathlib.Core.Bool.{Bool, true, false, _&&_}
 use mathlib.Core.Option.{Option, none, some}
 use mathlib.Core.List.{List, [], _∷_, _++_, map}
-use Prim.Native.Nat.{ℕ, zero, suc, _+_, _≤_, _<_}
+use Prim.Native.Nat.{ℕ, suc, _+_, _≤_, _<_}
 use lib.ListN.{length}
 use lib.Dec.{eqb, leb}
 use Rattle.rules.specs.Base.{same}
 use Rattle.rules.specs.Capacities.{nameRoom, blockRoom, labelRoom, relocRoom, wordRoom}
-use Rattle.rules.specs.Tokens.{Found, token, blank, bad, Match, tokenAt, upper}
+use Rattle.rules.specs.Tokens.{Found, token, blank, bad, tokenAt, upper}
 use Rattle.rules.specs.Statements.{asLabel}
-use Rattle.rules.specs.Tables.{Table, Order, look, Sorted, natOrder, nameOrder}
+use Rattle.rules.specs.Tables.{Table, look, Sorted, natOrder, nameOrder}
 
 -- a word beside a set mark: unset, or set to a word
 pub data Cell : Type 0 where

@@ -2,15 +2,15 @@
 -- `LongestMatch` says what the longest match is; `tokensBy` reads a source by the table. Assumes nothing.
 use Prim.Native.Nat.{ℕ, zero, suc, _+_, _-_, _≤_, _<_}
 use Prim.Native.Char.{Char}
-use mathlib.Core.Bool.{Bool, true, false, _||_, not}
+use mathlib.Core.Bool.{true, false, _||_, not}
 use mathlib.Core.List.{List, [], _∷_, _++_, map, List·Memᴰ}
-use mathlib.Core.Option.{Option, none, some}
+use mathlib.Core.Option.{none, some}
 use mathlib.Core.Path.{_≡_}
 use lib.ListN.{length, take, drop}
 use lib.Dec.{ltb}
 use Rattle.rules.specs.Base.{Outcome, ok, _>>=_, span, is, within}
-use Rattle.rules.specs.Regex.{Regex, empty, byte, _then_, _or_, star, Matches, longest, matching}
-use Rattle.rules.specs.Tokens.{Found, token, blank, bad, Match, match, mark, word, directive, digit, letter, wordy, space, upper, dec, decNeg, hex, hexNeg, reg, read, afterQuote, lexing, Token, tokenIn, kept}
+use Rattle.rules.specs.Regex.{Regex, empty, byte, _then_, _or_, star, Matches, longest}
+use Rattle.rules.specs.Tokens.{Found, token, blank, bad, Match, match, mark, word, directive, digit, letter, wordy, space, upper, dec, decNeg, hex, hexNeg, reg, read, afterQuote, Token, tokenIn, kept}
 
 -- the classes and repeats that lex.rs writes
 abbrev pub c1 : Char → Regex

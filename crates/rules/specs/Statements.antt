@@ -1,14 +1,14 @@
 -- Section "Statements" of document 01: from tokens to statements, with refusals 13 to 16.
 -- Comments and blank lines count for nothing: comments give no token, and newlines before a statement are passed over. Assumes nothing.
-use Prim.Native.Nat.{ℕ, zero, suc, _+_, _-_, _*_, _%_}
-use mathlib.Core.Bool.{Bool, true, false, _&&_, _||_, not}
-use mathlib.Core.List.{List, [], _∷_, _++_}
+use Prim.Native.Nat.{ℕ, zero, suc, _+_, _-_, _*_, _%_, _≤_, _<_}
+use mathlib.Core.Bool.{Bool, true, false, _&&_, _||_}
+use mathlib.Core.List.{List, [], _∷_}
 use mathlib.Core.Option.{Option, none, some}
-use lib.ListN.{length, drop, getD}
-use lib.Dec.{eqb, leb, ltb}
+use lib.ListN.{length}
+use lib.Dec.{eqb, leb}
 use Rattle.rules.specs.Base.{if_then_else_, Outcome, ok, refused, _>>=_, refuse, _>>_, require, Span, span, nowhere, has}
 use Rattle.rules.specs.Capacities.{nameRoom}
-use Rattle.rules.specs.Tokens.{Num, plus, minus, Kind, Token, tokenIn, number, register, mark, word, directive, text, nextToken}
+use Rattle.rules.specs.Tokens.{Num, plus, minus, Kind, Token, number, register, mark, word, directive, text, nextToken}
 use Rattle.rules.specs.Words.{Range, signed, Field, reg, regOrImm, num, near, name, string, Op, Row, instructions, directives, find}
 
 -- a label's text, in upper case, and its place
@@ -153,7 +153,7 @@ tokenIs p s i = elim (nextToken s i) [ ok t ↦ p (t .kind) | refused r ↦ fals
 unfoldable pub stopAt : List ℕ → ℕ → ℕ
 stopAt s i = elim (nextToken s i) [ ok t ↦ t .place .stop | refused r ↦ i ]
 
--- going on by a step while a test holds, at most k times
+-- going on by a step while a test holds, at most k times; as many as bytes are left are enough: proofs/Walking `walk-on`, `walk-done`
 unfoldable pub walk : (ℕ → Bool) → (ℕ → ℕ) → ℕ → ℕ → ℕ
 walk p f zero i = i
 walk p f (suc k) i = elim (p i) [ true ↦ walk p f k (f i) | false ↦ i ]
@@ -182,7 +182,7 @@ labelAt s i = has (nameAt s (pastLines s i))
 unfoldable pub pastLabel : List ℕ → ℕ → ℕ
 pastLabel s i = pastColon s (stopAt s (pastLines s i))
 
--- any number of labels: the names, and where they end
+-- any number of labels: the names, and where they end; as many steps as bytes are left are enough: proofs/Ahead `names-on`, `names-done`
 unfoldable pub labelsFrom : ℕ → List ℕ → ℕ → List Name
 labelsFrom zero s i = []
 labelsFrom (suc k) s i = elim (nameAt s (pastLines s i)) [ none ↦ [] | some n ↦ n ∷ labelsFrom k s (pastLabel s i) ]
@@ -258,6 +258,11 @@ pub record Read : Type 0 where
 abbrev pub read : Stmt → ℕ → Read
 read s n = record { stmt = s; next = n }
 
+-- what was read from a place on ends behind it, and not past the source
+pub record GoesOn (s : List ℕ) (at : ℕ) (x : Read) : Type 0 where
+  pub on : at < x .next
+  pub in′ : x .next ≤ length s
+
 abbrev pub stmt : List Name → Op → Given → ℕ → Stmt
 stmt ls o g start = record { labels = ls; op = o; bits = g .bits; target = g .target; chars = g .chars; quote = g .quote; place = span start (g .stop) }
 
@@ -292,7 +297,7 @@ nextStatement s i = do
   t ← nextToken s (pastLines s (pastLabels s i))
   tokenRead s (labelsAt s i) t
 
--- all of them, at most k
+-- all of them, at most k; as many as bytes are left and one are enough: proofs/Following `statements-on`, `statements-none`
 unfoldable pub statementsFrom : ℕ → List ℕ → ℕ → Outcome (List Stmt)
 statementsFrom zero s i = ok []
 statementsFrom (suc k) s i = do

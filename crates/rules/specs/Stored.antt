@@ -1,14 +1,14 @@
 -- Section "Stored form and listing" of document 01, the stored form: written, read, one field at a time. Assumes nothing.
 use Prim.Native.Nat.{ℕ, zero, suc, _+_, _-_, _*_, _/_, _%_}
-use mathlib.Core.Bool.{Bool, true, false, not, _&&_, _||_}
-use mathlib.Core.List.{List, [], _∷_, _++_, map, flatMap}
+use mathlib.Core.Bool.{Bool, true, false, _&&_}
+use mathlib.Core.List.{List, [], _∷_, _++_}
 use mathlib.Core.Option.{Option, none, some}
 use lib.ListN.{length, take, drop}
 use lib.Dec.{eqb, leb, ltb}
-use Rattle.rules.specs.Base.{Outcome, ok, refused, _>>=_, _>>_, require, refuse, Span, offsetAt, nowhere}
+use Rattle.rules.specs.Base.{Outcome, ok, _>>=_, _>>_, require, refuse, offsetAt, nowhere}
 use Rattle.rules.specs.Capacities.{blockRoom, labelRoom, relocRoom, wordRoom}
 use Rattle.rules.specs.Tables.{Table, Tri, less, same, more, Before, look, natOrder, nameOrder}
-use Rattle.rules.specs.Objects.{Cell, unset, word, Lab, outer, defined, Name, Object, object, Counts, countsOf, cells, goodName}
+use Rattle.rules.specs.Objects.{Cell, unset, word, Lab, outer, defined, Name, Object, object, countsOf, cells, goodName}
 
 -- FIELDS
 
@@ -201,7 +201,7 @@ abbrev pub framed : Bool → ℕ → Option Item → List Field → List Field
 framed true l i fs = field l i ∷ fs
 framed false l i fs = field l none ∷ []
 
--- the first k fields of bytes
+-- the first k fields of bytes; as many as there are bytes are enough, since a field has three at least
 unfoldable pub fieldsIn : ℕ → List ℕ → List Field
 fieldsIn zero b = []
 fieldsIn (suc k) [] = []

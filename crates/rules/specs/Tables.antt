@@ -1,10 +1,10 @@
 -- Sorted tables, which stand for the Rust's `HashMap` and `BTreeMap`: lists of key and value, strictly rising by a total order on keys. Assumes nothing.
 use mathlib.Core.Path.{_≡_, refl, sym, _∙_}
 use mathlib.Core.Logic.{_⊎_, inl, inr}
-use mathlib.Core.Bool.{Bool, true, false, _||_}
+use mathlib.Core.Bool.{Bool, false, _||_}
 use mathlib.Core.Option.{Option, none, some}
 use mathlib.Core.List.{List, [], _∷_}
-use Prim.Native.Nat.{ℕ, zero, suc, _+_, _≤_, _<_}
+use Prim.Native.Nat.{ℕ, _<_}
 use native.Mathlib.Nat.{lt-irrefl, lt-trans}
 use native.Mathlib.Decide.{decLt}
 use native.Mathlib.Omega.{arith}

@@ -1,12 +1,11 @@
 -- Section "Tokens" of document 01: the longest match of the patterns in lex.rs, over ASCII, read by hand.
 -- `Patterns` has the patterns themselves, and the page of promises the theorem that both are one reading. Assumes nothing.
 use Prim.Native.Nat.{ℕ, zero, suc, _+_, _-_, _*_}
-use Prim.Native.Char.{Char}
 use mathlib.Core.Bool.{Bool, true, false, _&&_, _||_, not}
 use mathlib.Core.List.{List, [], _∷_, _++_, map}
 use lib.ListN.{length, drop}
 use lib.Dec.{eqb, leb, ltb}
-use Rattle.rules.specs.Base.{if_then_else_, Outcome, ok, refused, _>>=_, _>>_, require, refuse, Span, span, is, within}
+use Rattle.rules.specs.Base.{if_then_else_, Outcome, ok, _>>=_, _>>_, require, refuse, Span, span, is, within}
 use Rattle.rules.specs.Capacities.{sourceRoom}
 
 -- a number as written: its sign and size

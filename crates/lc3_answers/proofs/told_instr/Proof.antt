@@ -1,6 +1,6 @@
 -- `lc3_answers::told_instr` meets its contract. Assumes nothing.
 use borrow.Author.Needs.{needs}
-use Rattle.words.specs.Instructions.{meant}
+use Rattle.isa.specs.Instructions.{meant}
 use Rattle.lc3_answers.proofs.told_instr.Statement.{statement}
 use Rattle.lc3_answers.proofs.told_instr.Tie as tie
 

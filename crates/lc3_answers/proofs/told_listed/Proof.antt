@@ -14,4 +14,4 @@ told-listed-spec =
     (λ c κs. search needs)
     (λ c κs. search needs)
     (λ c. rw (c .before .before .before .listed .given .1) (rw (c .before .wide .ensures) at (c .accepted .ensures)))
-    (λ c. rw (c .before .before .before .listed2 .given .1) (rw (c .before .wide8 .ensures) at (c .refused .ensures))))
+    (λ c. rw (c .before .before .before .listed2 .given .1) (rw (c .before .wide16 .ensures) at (c .refused .ensures))))

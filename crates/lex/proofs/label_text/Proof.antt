@@ -1,7 +1,7 @@
 -- `lex::label_text` meets its contract. Assumes nothing.
 use Rattle.rules.specs.Base.{if_then_else_}
-use Rattle.text.proofs.Rest.{tests}
-use Rattle.token.specs.Meant.{part}
+use Rattle.base_text.proofs.Rest.{tests}
+use Rattle.lex_token.specs.Meant.{part}
 use Rattle.lex.specs.Label.{labelText}
 use borrow.Author.Needs.{needs}
 use Rattle.lex.proofs.label_text.Statement.{statement}

@@ -1,6 +1,6 @@
 -- `lex::lex_comment` meets its contract. Assumes nothing.
 use mathlib.Core.Path.{_∙_, ap}
-use Rattle.token.specs.Flat.{flatNext}
+use Rattle.lex_token.specs.Flat.{flatNext}
 use Rattle.lex.proofs.Told.{comment-line, comment-end}
 use borrow.Author.Needs.{needs}
 use Rattle.lex.proofs.lex_comment.Statement.{statement}

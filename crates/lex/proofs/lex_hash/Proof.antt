@@ -1,8 +1,8 @@
 -- `lex::lex_hash` meets its contract. Assumes nothing.
 use mathlib.Core.Path.{_∙_, ap}
 use native.Mathlib.Omega.{arith}
-use Rattle.text.proofs.Rest.{inside}
-use Rattle.token.specs.Flat.{flatNext}
+use Rattle.base_text.proofs.Rest.{inside}
+use Rattle.lex_token.specs.Flat.{flatNext}
 use Rattle.lex.proofs.Told.{second-in, hash-minus, hash-plain, hash-hash-minus, hash-hash}
 use borrow.Author.Needs.{needs}
 use Rattle.lex.proofs.lex_hash.Statement.{statement}

@@ -1,6 +1,6 @@
 -- `lex::lex_letter` meets its contract. Assumes nothing.
 use mathlib.Core.Path.{_∙_, ap}
-use Rattle.token.specs.Flat.{flatNext}
+use Rattle.lex_token.specs.Flat.{flatNext}
 use Rattle.lex.proofs.First.{told-r, told-x, told-word}
 use borrow.Author.Needs.{needs}
 use Rattle.lex.proofs.lex_letter.Statement.{statement}

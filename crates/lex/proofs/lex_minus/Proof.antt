@@ -1,6 +1,6 @@
 -- `lex::lex_minus` meets its contract. Assumes nothing.
 use mathlib.Core.Path.{_∙_, ap}
-use Rattle.token.specs.Flat.{flatNext}
+use Rattle.lex_token.specs.Flat.{flatNext}
 use Rattle.lex.proofs.Told.{minus-plain, minus-hash}
 use borrow.Author.Needs.{needs}
 use Rattle.lex.proofs.lex_minus.Statement.{statement}

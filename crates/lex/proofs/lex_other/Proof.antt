@@ -1,6 +1,6 @@
 -- `lex::lex_other` meets its contract. Assumes nothing.
 use mathlib.Core.Path.{_∙_, ap}
-use Rattle.token.specs.Flat.{flatNext}
+use Rattle.lex_token.specs.Flat.{flatNext}
 use Rattle.lex.proofs.First.{is-comma, is-line, is-colon, is-comment, is-quote, is-return, is-dot, is-none}
 use borrow.Author.Needs.{needs}
 use Rattle.lex.proofs.lex_other.Statement.{statement}

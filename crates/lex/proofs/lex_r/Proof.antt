@@ -1,6 +1,6 @@
 -- `lex::lex_r` meets its contract. Assumes nothing.
 use mathlib.Core.Path.{_∙_, ap}
-use Rattle.token.specs.Flat.{flatNext}
+use Rattle.lex_token.specs.Flat.{flatNext}
 use Rattle.lex.proofs.Told.{r-alone, r-word, r-reg}
 use borrow.Author.Needs.{needs}
 use Rattle.lex.proofs.lex_r.Statement.{statement}

@@ -1,6 +1,6 @@
 -- `lex::lex_str_literal` meets its contract. Assumes nothing.
 use mathlib.Core.Path.{sym, _∙_, ap}
-use Rattle.token.specs.Flat.{flatNext}
+use Rattle.lex_token.specs.Flat.{flatNext}
 use Rattle.lex.proofs.Told.{quote-took, quote-big, quote-open}
 use borrow.Author.Needs.{needs}
 use Rattle.lex.proofs.lex_str_literal.Statement.{statement}

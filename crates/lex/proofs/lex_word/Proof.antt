@@ -1,7 +1,7 @@
 -- `lex::lex_word` meets its contract. Assumes nothing.
 use mathlib.Core.Path.{sym, _∙_, ap}
-use Rattle.text.proofs.RunLaws.{end-ge, end-le}
-use Rattle.token.specs.Flat.{flatNext}
+use Rattle.base_text.proofs.RunLaws.{end-ge, end-le}
+use Rattle.lex_token.specs.Flat.{flatNext}
 use Rattle.lex.proofs.Told.{word-told}
 use borrow.Author.Needs.{needs}
 use Rattle.lex.proofs.lex_word.Statement.{statement}

@@ -1,7 +1,7 @@
 -- `lex::lex_x` meets its contract. Assumes nothing.
 use mathlib.Core.Path.{_∙_, ap}
 use native.Mathlib.Omega.{arith}
-use Rattle.token.specs.Flat.{flatNext}
+use Rattle.lex_token.specs.Flat.{flatNext}
 use Rattle.lex.proofs.Told.{second-in, x-minus, x-digit, x-word}
 use borrow.Author.Needs.{needs}
 use Rattle.lex.proofs.lex_x.Statement.{statement}

@@ -1,6 +1,6 @@
 -- `lex::lexeme_at` meets its contract. Assumes nothing.
 use mathlib.Core.Path.{refl, _∙_, ap}
-use Rattle.token.specs.Flat.{flatNext}
+use Rattle.lex_token.specs.Flat.{flatNext}
 use Rattle.lex.proofs.First.{no-space, next-told, next-done}
 use borrow.Author.Needs.{needs}
 use Rattle.lex.proofs.lexeme_at.Statement.{statement}

@@ -1,11 +1,11 @@
 -- `lex::next_token` meets its contract. Assumes nothing.
 use mathlib.Core.Path.{sym, subst, _∙_, ap}
 use Rattle.rules.specs.Tokens.{nextToken}
-use Rattle.token.specs.Coded.{coded}
-use Rattle.token.specs.Flat.{nextOf, Narrow}
-use Rattle.token.specs.Meant.{meant}
-use Rattle.token.proofs.Back.{there-and-back}
-use Rattle.token.proofs.MeantCoded.{meant-coded}
+use Rattle.lex_token.specs.Coded.{coded}
+use Rattle.lex_token.specs.Flat.{nextOf, Narrow}
+use Rattle.lex_token.specs.Meant.{meant}
+use Rattle.lex_token.proofs.Back.{there-and-back}
+use Rattle.lex_token.proofs.MeantCoded.{meant-coded}
 use Rattle.lex.proofs.Narrowness.{next-narrow}
 use borrow.Author.Needs.{needs}
 use Rattle.lex.proofs.next_token.Statement.{statement}

@@ -1,6 +1,6 @@
 -- `lex::token_at` meets its contract. Assumes nothing.
 use mathlib.Core.Path.{sym, _∙_, ap}
-use Rattle.token.specs.Flat.{flatNext}
+use Rattle.lex_token.specs.Flat.{flatNext}
 use Rattle.lex.proofs.First.{told-digit, told-hash, told-minus, told-other}
 use borrow.Author.Needs.{needs}
 use Rattle.lex.proofs.token_at.Statement.{statement}

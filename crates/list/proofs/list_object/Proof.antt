@@ -5,9 +5,6 @@ use Rattle.list.proofs.Listing.{first-fits, second-fits, third-fits, no
 use Rattle.list.proofs.list_object.Statement.{statement}
 use Rattle.list.proofs.list_object.Tie as tie
 
-listing-size-requires : tie.Need-listing-size-requires
-listing-size-requires c κs = search needs
-
 returns : tie.Need-returns
 returns c = no-room _ _ (c .before .listing-size .ensures) _ (c .before .before .before .before .before .before .before .before .before .pre .1) (c .if1 .taken)
 
@@ -29,9 +26,6 @@ put-relocations-requires c κs =
     let room = third-fits _ _ (c .before .before .before .before .before .before .before .before .before .before .listing-size .ensures) _ _ _ _ _ (c .before .before .before .before .before .before .before .before .before .if1 .left) (c .before .before .before .before .before .before .before .put-blocks .ensures) (c .before .before .before .put-labels .ensures) in
     (relocs-low _ _ v, room)
 
-same-length : tie.Need-same-length
-same-length c = search needs
-
 returns-2 : tie.Need-returns-2
 returns-2 c = all-written _ _ (c .before .before .before .before .before .before .before .before .before .before .before .before .before .listing-size .ensures) _ _ _ _ _ _ _ (c .before .before .before .before .before .before .before .before .before .before .before .before .before .before .before .before .before .before .before .before .before .pre .1) (c .before .before .before .before .before .before .before .before .before .before .before .before .if1 .left) (c .before .before .before .before .before .before .before .before .before .before .put-blocks .ensures) (c .before .before .before .before .before .before .put-labels .ensures) (c .before .before .put-relocations .ensures)
 
@@ -39,10 +33,10 @@ pub list-object-spec : {M : Type 1} → statement M
 list-object-spec =
     tie.close
     (tie.spec
-    listing-size-requires
+    (λ c κs. search needs)
     returns
     put-blocks-requires
     put-labels-requires
     put-relocations-requires
-    same-length
+    (λ c. search needs)
     returns-2)

@@ -5,14 +5,8 @@ use Rattle.list.proofs.Length.{few-words, listing-size, relocs-named}
 use Rattle.list.proofs.listing_size.Statement.{statement}
 use Rattle.list.proofs.listing_size.Tie as tie
 
-labels-size-requires : tie.Need-labels-size-requires
-labels-size-requires c κs = search needs
-
 relocations-size-requires : tie.Need-relocations-size-requires
 relocations-size-requires c κs = relocs-named _ _ (c .before .before .before .before .before .before .before .pre)
-
-mul-result : tie.Need-mul-result
-mul-result c = search needs
 
 mul-result-2 : tie.Need-mul-result-2
 mul-result-2 c =
@@ -48,9 +42,9 @@ pub listing-size-spec : {M : Type 1} → statement M
 listing-size-spec =
     tie.close
     (tie.spec
-    labels-size-requires
+    (λ c κs. search needs)
     relocations-size-requires
-    mul-result
+    (λ c. search needs)
     mul-result-2
     add-result
     add-result-2

@@ -1,7 +1,6 @@
 -- `object::is_short` meets its contract. Assumes nothing.
 use mathlib.Core.Path.{refl}
 use Rattle.rules.specs.Buffers.{short}
-use borrow.Author.Needs.{needs}
 use Rattle.object.proofs.is_short.Statement.{statement}
 use Rattle.object.proofs.is_short.Tie as tie
 

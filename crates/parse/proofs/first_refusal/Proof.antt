@@ -15,26 +15,14 @@ abbrev μ-loop : tie.MeasureT-loop
 loop-holds : tie.Need-loop-holds Inv-loop μ-loop
 loop-holds c = search (needs, rest-start)
 
-next-statement-requires : tie.Need-next-statement-requires Inv-loop μ-loop
-next-statement-requires c κs = search needs
-
-enum-known-statement : tie.Need-enum-known-statement Inv-loop μ-loop
-enum-known-statement c = search needs
-
 loop-less : tie.Need-loop-less Inv-loop μ-loop
 loop-less c = search (needs, rest-less)
 
 loop-again : tie.Need-loop-again Inv-loop μ-loop
 loop-again c = search (needs, rest-next)
 
-enum-told : tie.Need-enum-told Inv-loop μ-loop
-enum-told c = search needs
-
 returns : tie.Need-returns Inv-loop μ-loop
 returns c = search (needs, rest-none)
-
-enum-known-statement-2 : tie.Need-enum-known-statement-2 Inv-loop μ-loop
-enum-known-statement-2 c = search needs
 
 returns-2 : tie.Need-returns-2 Inv-loop μ-loop
 returns-2 c = search (needs, rest-refused)
@@ -46,11 +34,11 @@ first-refusal-spec =
     Inv-loop
     μ-loop
     loop-holds
-    next-statement-requires
-    enum-known-statement
+    (λ c κs. search needs)
+    (λ c. search needs)
     loop-less
     loop-again
-    enum-told
+    (λ c. search needs)
     returns
-    enum-known-statement-2
+    (λ c. search needs)
     returns-2)

@@ -4,17 +4,11 @@ use borrow.Author.Needs.{needs}
 use Rattle.parse.proofs.unfit.Statement.{statement}
 use Rattle.parse.proofs.unfit.Tie as tie
 
-refused-requires : tie.Need-refused-requires
-refused-requires c κs = search needs
-
 returns : tie.Need-returns
 returns c = search (needs, unfit-own)
-
-refused-requires-2 : tie.Need-refused-requires-2
-refused-requires-2 c κs = search needs
 
 returns-2 : tie.Need-returns-2
 returns-2 c = search (needs, unfit-other)
 
 pub unfit-spec : {M : Type 1} → statement M
-unfit-spec = tie.close (tie.spec refused-requires returns refused-requires-2 returns-2)
+unfit-spec = tie.close (tie.spec (λ c κs. search needs) returns (λ c κs. search needs) returns-2)

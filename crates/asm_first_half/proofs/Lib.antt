@@ -1,0 +1,2 @@
+-- Laws that the proofs of `asm_first_half` cite. Assumes nothing.
+pub mod Checked

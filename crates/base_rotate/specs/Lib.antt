@@ -1,0 +1,2 @@
+-- What the contracts of `base_rotate` cite. Assumes nothing.
+pub mod Turned

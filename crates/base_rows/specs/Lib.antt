@@ -1,0 +1,2 @@
+-- What the contracts of `base_rows` cite. Assumes nothing.
+pub mod Opened

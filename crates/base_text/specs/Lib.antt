@@ -1,0 +1,3 @@
+-- What the contracts of `base_text` cite beside the rules. Assumes nothing.
+pub mod Runs
+pub mod Names

@@ -1,0 +1,216 @@
+// Bytes of a source: their classes, upper case, the value of a digit, runs of a class, and names compared.
+ghost use mathlib.Core.Path.{_≡_};
+ghost use mathlib.Core.List.{map};
+ghost use lib.ListN.{getD};
+ghost use Rattle.rules.specs.Base.{same};
+ghost use Rattle.rules.specs.Tokens.{digit, letter, wordy, space, upper, value};
+ghost use Rattle.base_text.specs.Runs.{inClass, runEnd};
+ghost use Rattle.base_text.specs.Names.{ordered};
+
+// 0 to 9.
+pub fn is_digit(b: u8) -> bool
+    ensures { λ r. ⌜ r ≡ digit b ⌝ }
+{
+    (b'0' <= b) & (b <= b'9')
+}
+
+// A to Z, a to z and the underscore.
+pub fn is_letter(b: u8) -> bool
+    ensures { λ r. ⌜ r ≡ letter b ⌝ }
+{
+    ((b'A' <= b) & (b <= b'Z')) | ((b'a' <= b) & (b <= b'z')) | (b == b'_')
+}
+
+// A digit or a letter.
+pub fn is_word(b: u8) -> bool
+    ensures { λ r. ⌜ r ≡ wordy b ⌝ }
+{
+    is_digit(b) | is_letter(b)
+}
+
+// A space or a tab.
+pub fn is_space(b: u8) -> bool
+    ensures { λ r. ⌜ r ≡ space b ⌝ }
+{
+    (b == b' ') | (b == b'\t')
+}
+
+// How far a small letter stands from its capital.
+const FROM_CAPITAL: u8 = b'a' - b'A';
+
+// A small letter's capital; any other byte stays.
+pub fn upper_case(b: u8) -> u8
+    ensures { λ r. ⌜ r ≡ upper b ⌝ }
+{
+    if b < b'a' {
+        return b;
+    }
+    if b <= b'z' {
+        return b - FROM_CAPITAL;
+    }
+    b
+}
+
+// What a byte that is no digit has for a value.
+const NO_DIGIT: u8 = 99;
+
+// What is taken from A to F, and from a to f, for their values.
+const BEFORE_CAPITALS: u8 = b'A' - 10;
+
+const BEFORE_SMALL: u8 = b'a' - 10;
+
+// The value of a digit up to F; NO_DIGIT of any other byte.
+pub fn digit_value(b: u8) -> u8
+    ensures { λ r. ⌜ r ≡ value b ⌝ }
+{
+    if b < b'0' {
+        return NO_DIGIT;
+    }
+    if b <= b'9' {
+        return b - b'0';
+    }
+    if b < b'A' {
+        return NO_DIGIT;
+    }
+    if b <= b'F' {
+        return b - BEFORE_CAPITALS;
+    }
+    if b < b'a' {
+        return NO_DIGIT;
+    }
+    if b <= b'f' {
+        return b - BEFORE_SMALL;
+    }
+    NO_DIGIT
+}
+
+// The first byte that is no ASCII character.
+const PAST_ASCII: u8 = 128;
+
+// The classes of which a source has runs; Line is every byte but the line feed.
+pub enum Class {
+    Word,
+    Digit,
+    Space,
+    Hash,
+    Line,
+    Ascii,
+}
+
+pub fn in_class(class: Class, b: u8) -> bool
+    ensures { λ r. ⌜ r ≡ inClass class b ⌝ }
+{
+    match class {
+        Class::Word => is_word(b),
+        Class::Digit => is_digit(b),
+        Class::Space => is_space(b),
+        Class::Hash => b == b'#',
+        Class::Line => !(b == b'\n'),
+        Class::Ascii => b < PAST_ASCII,
+    }
+}
+
+// Where the longest run of bytes of the class from `at` ends.
+pub fn run_end(src: &[u8], at: usize, class: Class) -> usize
+    ensures { λ r. ⌜ r ≡ runEnd class (now (src .entry)) at ⌝ }
+{
+    let mut i = at;
+    while i < src.len() {
+        if in_class(class, src[i]) {
+            i += 1;
+        } else {
+            return i;
+        }
+    }
+    i
+}
+
+// The byte at i; 0 past the end.
+pub fn byte_at(src: &[u8], i: usize) -> u8
+    ensures { λ r. ⌜ r ≡ getD (now (src .entry)) i 0 ⌝ }
+{
+    if i < src.len() { src[i] } else { 0 }
+}
+
+// Two names are the same in upper case.
+pub fn same_name(a: &[u8], b: &[u8]) -> bool
+    ensures { λ r. ⌜ r ≡ same (map upper (now (a .entry))) (map upper (now (b .entry))) ⌝ }
+{
+    if a.len() == b.len() {
+        let mut i = 0;
+        while i < a.len() {
+            if upper_case(a[i]) == upper_case(b[i]) {
+                i += 1;
+            } else {
+                return false;
+            }
+        }
+        return true;
+    }
+    false
+}
+
+// How two names stand to each other.
+pub enum Order {
+    Less,
+    Same,
+    Greater,
+}
+
+// Two names in upper case, bytewise; a name goes before a longer one that it begins. Bytes that are the same need no upper case.
+pub fn compare_names(a: &[u8], b: &[u8]) -> Order
+    ensures { λ r. ⌜ r ≡ ordered (map upper (now (a .entry))) (map upper (now (b .entry))) ⌝ }
+{
+    let mut i = 0;
+    while i < a.len() {
+        if b.len() <= i {
+            return Order::Greater;
+        }
+        let p = a[i];
+        let q = b[i];
+        if p == q {
+            i += 1;
+        } else {
+            let x = upper_case(p);
+            let y = upper_case(q);
+            if x < y {
+                return Order::Less;
+            }
+            if y < x {
+                return Order::Greater;
+            }
+            i += 1;
+        }
+    }
+    if b.len() <= i {
+        Order::Same
+    } else {
+        Order::Less
+    }
+}
+
+// Two names as they stand, bytewise; a name goes before a longer one that it begins. For tables whose names are in upper case already, as those of objects are.
+pub fn compare_bytes(a: &[u8], b: &[u8]) -> Order
+    ensures { λ r. ⌜ r ≡ ordered (now (a .entry)) (now (b .entry)) ⌝ }
+{
+    let mut i = 0;
+    while i < a.len() {
+        if b.len() <= i {
+            return Order::Greater;
+        }
+        let x = a[i];
+        let y = b[i];
+        if x < y {
+            return Order::Less;
+        }
+        if y < x {
+            return Order::Greater;
+        }
+        i += 1;
+    }
+    if b.len() <= i {
+        Order::Same
+    } else {
+        Order::Less
+    }
+}

@@ -1,2 +1,0 @@
--- What the contracts of `buffers` cite beside the rules. Assumes nothing.
-pub mod Rows

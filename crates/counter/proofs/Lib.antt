@@ -1,3 +1,0 @@
--- Laws that the proofs of `counter` cite. Assumes nothing.
-pub mod Rule
-pub mod Counting

@@ -1,2 +1,0 @@
--- What the contracts of `counter` cite beside the rules. Assumes nothing.
-pub mod State

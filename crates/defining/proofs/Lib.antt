@@ -1,2 +1,0 @@
--- Laws that the proofs of `defining` cite. Assumes nothing.
-pub mod Defining

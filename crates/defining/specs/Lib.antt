@@ -1,2 +1,0 @@
--- What the contracts of `defining` cite beside the rules. Assumes nothing.
-pub mod Tables

@@ -1,2 +1,0 @@
--- Laws that the proofs of `directing` cite. Assumes nothing.
-pub mod Directing

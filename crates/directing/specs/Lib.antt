@@ -1,2 +1,0 @@
--- What the contracts of `directing` cite beside the rules. Assumes nothing.
-pub mod Sound

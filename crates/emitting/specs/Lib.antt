@@ -1,2 +1,0 @@
--- What the contracts of `emitting` cite beside the rules. Assumes nothing.
-pub mod State

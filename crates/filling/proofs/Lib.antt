@@ -1,2 +1,0 @@
--- Laws that the proofs of `filling` cite. Assumes nothing.
-pub mod Filling

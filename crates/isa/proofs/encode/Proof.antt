@@ -1,0 +1,96 @@
+-- `encode` meets its contract: each arm joins the parts that the rule's row has. Assumes nothing.
+use mathlib.Core.Path.{refl}
+use native.Mathlib.Omega.{arith}
+use borrow.Author.Needs.{needs}
+use Rattle.rules.specs.Base.{if_then_else_}
+use Rattle.rules.specs.Words.{signed, instructions, find, bits, joined, made, word}
+use Rattle.isa.specs.Instructions.{meant}
+use Rattle.isa_fields.specs.declared.Encoded.the-variants.{Bits}
+use Rattle.isa.specs.declared.AsmInstr.the-variants.{ADD, AND, JMP, JSR, JSRR, LD, LDI, LDR, LEA, RET, RTI, ST, STI, STR, NOP, GETC, OUT, PUTC, PUTS, IN, PUTSP, HALT}
+use Rattle.isa.proofs.Parts.{small, small-last, arm-last, arm-six, arm-nine, arm-branch, arm-low, arm-base, arm-not, arm-trap, fixed}
+use Rattle.isa.proofs.encode.Statement.{statement}
+use Rattle.isa.proofs.encode.Tie as tie
+
+pub encode-spec : {M : Type 1} → statement M
+unfolding word made find instructions joined bits meant if_then_else_
+encode-spec =
+    tie.close
+    (tie.spec
+    (λ c. search needs)
+    (λ c κs. search needs)
+    (λ c κs. omega (arith, small-last ADD _ _ _ _ _ (c .before .before .instr .given .1) (c .imm-or-reg .ensures)))
+    (λ c. search needs)
+    (λ c κs. search needs)
+    (λ c κs. omega (arith, small-last AND _ _ _ _ _ (c .before .before .instr2 .given .1) (c .imm-or-reg2 .ensures)))
+    (λ c. search needs)
+    (λ c κs. search needs)
+    (λ c κs. omega (arith, small 256 255 512 _ _ (omega arith) (c .low9 .ensures)))
+    (λ c. search needs)
+    (λ c κs. search needs)
+    (λ c. search needs)
+    (λ c κs. search needs)
+    (λ c κs. omega (arith, small 1024 1023 2048 _ _ (omega arith) (c .low11 .ensures)))
+    (λ c. search needs)
+    (λ c κs. search needs)
+    (λ c. search needs)
+    (λ c κs. search needs)
+    (λ c κs. omega (arith, small 256 255 512 _ _ (omega arith) (c .low92 .ensures)))
+    (λ c. search needs)
+    (λ c κs. search needs)
+    (λ c κs. omega (arith, small 256 255 512 _ _ (omega arith) (c .low93 .ensures)))
+    (λ c. search needs)
+    (λ c κs. search needs)
+    (λ c κs. omega (arith, small 32 31 64 _ _ (omega arith) (c .low6 .ensures)))
+    (λ c. search needs)
+    (λ c κs. search needs)
+    (λ c κs. omega (arith, small 256 255 512 _ _ (omega arith) (c .low94 .ensures)))
+    (λ c. search needs)
+    (λ c κs. search needs)
+    (λ c. search needs)
+    (λ c. search needs)
+    (λ c. search needs)
+    (λ c κs. search needs)
+    (λ c κs. omega (arith, small 256 255 512 _ _ (omega arith) (c .low95 .ensures)))
+    (λ c. search needs)
+    (λ c κs. search needs)
+    (λ c κs. omega (arith, small 256 255 512 _ _ (omega arith) (c .low96 .ensures)))
+    (λ c. search needs)
+    (λ c κs. search needs)
+    (λ c κs. omega (arith, small 32 31 64 _ _ (omega arith) (c .low62 .ensures)))
+    (λ c. search needs)
+    (λ c κs. search needs)
+    (λ c. search needs)
+    (λ c κs. search needs)
+    (λ c κs. omega (arith, small 256 255 512 _ _ (omega arith) (c .low97 .ensures)))
+    (λ c. search needs)
+    (λ c. search needs)
+    (λ c. search needs)
+    (λ c. search needs)
+    (λ c. search needs)
+    (λ c. search needs)
+    (λ c. search needs)
+    (λ c. arm-last 0x1000 _ _ _ ADD (λ d s o. refl) _ _ _ (c .before .before .before .instr .given .1) (c .before .imm-or-reg .ensures) (c .join-bits .ensures))
+    (λ c. arm-last 0x5000 _ _ _ AND (λ d s o. refl) _ _ _ (c .before .before .before .instr2 .given .1) (c .before .imm-or-reg2 .ensures) (c .join-bits2 .ensures))
+    (λ c. arm-branch 0 _ _ _ _ _ (c .before .before .before .instr3 .given .1) (c .before .low9 .ensures) (c .join-bits3 .ensures))
+    (λ c. arm-base 0xc000 _ _ (Bits 0) JMP (λ b. refl) _ (c .before .before .instr4 .given .1) (c .join-bits4 .ensures))
+    (λ c. arm-low 0x4800 _ _ _ (signed 11) JSR (λ o. refl) _ (c .before .before .before .instr5 .given .1) (c .before .low11 .ensures) (c .join-bits5 .ensures))
+    (λ c. arm-base 0x4000 _ _ (Bits 0) JSRR (λ b. refl) _ (c .before .before .instr6 .given .1) (c .join-bits6 .ensures))
+    (λ c. arm-nine 0x2000 _ _ _ LD (λ d o. refl) _ _ (c .before .before .before .instr7 .given .1) (c .before .low92 .ensures) (c .join-bits7 .ensures))
+    (λ c. arm-nine 0xa000 _ _ _ LDI (λ d o. refl) _ _ (c .before .before .before .instr8 .given .1) (c .before .low93 .ensures) (c .join-bits8 .ensures))
+    (λ c. arm-six 0x6000 _ _ _ LDR (λ d b o. refl) _ _ _ (c .before .before .before .instr9 .given .1) (c .before .low6 .ensures) (c .join-bits9 .ensures))
+    (λ c. arm-nine 0xe000 _ _ _ LEA (λ d o. refl) _ _ (c .before .before .before .instr10 .given .1) (c .before .low94 .ensures) (c .join-bits10 .ensures))
+    (λ c. arm-not _ _ _ _ (c .before .before .instr11 .given .1) (c .join-bits11 .ensures))
+    (λ c. fixed _ RET _ (c .enum-told .given .1) refl)
+    (λ c. fixed _ RTI _ (c .enum-told2 .given .1) refl)
+    (λ c. arm-nine 0x3000 _ _ _ ST (λ d o. refl) _ _ (c .before .before .before .instr12 .given .1) (c .before .low95 .ensures) (c .join-bits12 .ensures))
+    (λ c. arm-nine 0xb000 _ _ _ STI (λ d o. refl) _ _ (c .before .before .before .instr13 .given .1) (c .before .low96 .ensures) (c .join-bits13 .ensures))
+    (λ c. arm-six 0x7000 _ _ _ STR (λ d b o. refl) _ _ _ (c .before .before .before .instr14 .given .1) (c .before .low62 .ensures) (c .join-bits14 .ensures))
+    (λ c. arm-trap _ _ _ (c .before .before .instr15 .given .1) (c .trap-word .ensures))
+    (λ c. arm-low 0 _ _ _ (signed 9) NOP (λ o. refl) _ (c .before .before .before .instr16 .given .1) (c .before .low97 .ensures) (c .join-bits15 .ensures))
+    (λ c. fixed _ GETC _ (c .enum-told3 .given .1) refl)
+    (λ c. fixed _ OUT _ (c .enum-told4 .given .1) refl)
+    (λ c. fixed _ PUTC _ (c .enum-told5 .given .1) refl)
+    (λ c. fixed _ PUTS _ (c .enum-told6 .given .1) refl)
+    (λ c. fixed _ IN _ (c .enum-told7 .given .1) refl)
+    (λ c. fixed _ PUTSP _ (c .enum-told8 .given .1) refl)
+    (λ c. fixed _ HALT _ (c .enum-told9 .given .1) refl))

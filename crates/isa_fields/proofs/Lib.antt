@@ -1,0 +1,3 @@
+-- Laws of fields, and what the contracts of `isa_fields` give. Assumes nothing.
+pub mod Numbers
+pub mod Promises

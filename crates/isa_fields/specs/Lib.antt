@@ -1,0 +1,2 @@
+-- What the contracts of `isa_fields` cite beside the rules. Assumes nothing.
+pub mod Fields

@@ -1,2 +1,0 @@
--- What the contracts of `label_names` cite beside the rules. Assumes nothing.
-pub mod Whole

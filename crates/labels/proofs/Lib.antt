@@ -1,3 +1,0 @@
--- Laws that the proofs of `labels` cite. Assumes nothing.
-pub mod Walking
-pub mod Labelled

@@ -1,0 +1,3 @@
+-- What the contracts of `lex_reserved` cite. Assumes nothing.
+pub mod Ident
+pub mod Table

@@ -1,2 +1,0 @@
--- What the contracts of `lexeme` cite beside the rules. Assumes nothing.
-pub mod Sorts

@@ -1,2 +1,0 @@
--- What the contracts of `lines` cite beside the rules. Assumes nothing.
-pub mod Lines

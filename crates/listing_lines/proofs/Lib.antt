@@ -1,4 +1,0 @@
--- Laws that the proofs of `listing_lines` cite. Assumes nothing.
-pub mod Digits
-pub mod Appending
-pub mod Lines

@@ -1,3 +1,0 @@
--- What the contracts of `literals` cite beside the rules. Assumes nothing.
-pub mod Numbers
-pub mod Strings

@@ -1,3 +1,0 @@
--- Laws that the proofs of `naming` cite. Assumes nothing.
-pub mod Texts
-pub mod Adding

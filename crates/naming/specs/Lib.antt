@@ -1,2 +1,0 @@
--- What the contracts of `naming` cite beside the rules. Assumes nothing.
-pub mod Naming

@@ -1,0 +1,137 @@
+// What 43 demands of an object's blocks and words, and where the word of an address stands among them.
+ghost use mathlib.Core.Path.{_≡_};
+ghost use Prim.Native.Nat.{_<_};
+ghost use lib.ListN.{length};
+ghost use Rattle.rules.specs.Buffers.{BlocksOk, WordsOk, ZeroAt};
+ghost use Rattle.object.specs.Decides.{Decides};
+ghost use Rattle.object_check_blocks.specs.Places.{Placed, ZeroCell};
+use base_capacities::BLOCK_CELLS;
+use base_capacities::BLOCK_LENGTH;
+use base_capacities::BLOCKS;
+use base_capacities::SET;
+use base_capacities::UNSET;
+
+// The first address of the devices, as wide as a sum of a start and a length.
+const IO_START: usize = base_capacities::IO_START as usize;
+
+// Where a word stands.
+pub enum Place {
+    At(usize),
+    Nowhere,
+}
+
+fn wide(x: u16) -> usize
+    ensures { λ r. ⌜ (r ≡ x) × (r < 65536) ⌝ }
+{
+    x as usize
+}
+
+// The n block rows rise without overlap, are not empty, end at most at xFE00 and have w words together.
+pub fn check_blocks(blocks: &[u16], n: usize, w: usize) -> bool
+    ensures { λ r. ⌜ Decides (BlocksOk n w (now (blocks .entry))) r ⌝ }
+{
+    if BLOCKS < n {
+        return false;
+    }
+    if blocks.len() < n * BLOCK_CELLS {
+        return false;
+    }
+    let mut end = 0;
+    let mut sum = 0;
+    let mut k = 0;
+    while k < n {
+        let i = k * BLOCK_CELLS;
+        let start = wide(blocks[i]);
+        let size = wide(blocks[i + BLOCK_LENGTH]);
+        if start < end {
+            return false;
+        }
+        if size == 0 {
+            return false;
+        }
+        if IO_START < start + size {
+            return false;
+        }
+        end = start + size;
+        sum += size;
+        k += 1;
+    }
+    if sum == w {
+        return true;
+    }
+    false
+}
+
+// The first w marks are 0 or 1, and a word whose mark is 0 is 0.
+pub fn check_words(words: &[u16], marks: &[u8], w: usize) -> bool
+    ensures { λ r. ⌜ Decides (WordsOk w (now (words .entry)) (now (marks .entry))) r ⌝ }
+{
+    if words.len() < w {
+        return false;
+    }
+    if marks.len() < w {
+        return false;
+    }
+    let mut i = 0;
+    while i < w {
+        if SET < marks[i] {
+            return false;
+        }
+        if marks[i] == UNSET {
+            if words[i] != 0 {
+                return false;
+            }
+        }
+        i += 1;
+    }
+    true
+}
+
+// The place, among the words of all blocks, of the word at address x.
+pub fn place_of(blocks: &[u16], n: usize, w: usize, x: usize) -> Place
+    requires { ⌜ BlocksOk n w (now blocks) ⌝ }
+    ensures { λ r. ⌜ Placed n w (now (blocks .entry)) x r ⌝ }
+{
+    let mut sum = 0;
+    let mut k = 0;
+    while k < n {
+        let i = k * BLOCK_CELLS;
+        let start = wide(blocks[i]);
+        let size = wide(blocks[i + BLOCK_LENGTH]);
+        if x < start {
+            return Place::Nowhere;
+        }
+        let d = x - start;
+        if d < size {
+            return Place::At(sum + d);
+        }
+        sum += size;
+        k += 1;
+    }
+    Place::Nowhere
+}
+
+// Word p is set and 0.
+pub fn zero_cell(words: &[u16], marks: &[u8], p: usize) -> bool
+    requires { ⌜ (p < length (now words)) × (p < length (now marks)) ⌝ }
+    ensures { λ r. ⌜ Decides (ZeroCell (now (words .entry)) (now (marks .entry)) p) r ⌝ }
+{
+    if marks[p] == UNSET {
+        return false;
+    }
+    if words[p] == 0 {
+        return true;
+    }
+    false
+}
+
+// A set word 0 stands at an address.
+pub fn zero_at(blocks: &[u16], n: usize, words: &[u16], marks: &[u8], w: usize, x: usize) -> bool
+    requires { ⌜ BlocksOk n w (now blocks) × WordsOk w (now words) (now marks) ⌝ }
+    ensures { λ r. ⌜ Decides (ZeroAt n w (now (blocks .entry)) (now (words .entry)) (now (marks .entry)) x) r ⌝ }
+{
+    match place_of(blocks, n, w, x) {
+        Place::At(p) => zero_cell(words, marks, p),
+        Place::Nowhere => false,
+    }
+}

@@ -1,0 +1,31 @@
+-- `object_check_labels::check_label` meets its contract. Assumes nothing.
+use Rattle.object_check_labels.proofs.Rules.{row-flag, row-past, row-name}
+use borrow.Author.Needs.{needs}
+use Rattle.object_check_labels.proofs.check_label.Statement.{statement}
+use Rattle.object_check_labels.proofs.check_label.Tie as tie
+
+pub check-label-spec : {M : Type 1} → statement M
+check-label-spec =
+    tie.close
+    (tie.spec
+    (λ c. search needs)
+    (λ c. search needs)
+    (λ c. search needs)
+    (λ c. search needs)
+    (λ c. search needs)
+    (λ c. search needs)
+    (λ c κs. search needs)
+    (λ c. search needs)
+    (λ c. search needs)
+    (λ c. search needs)
+    (λ c κs. search needs)
+    (λ c. search needs)
+    (λ c. search needs)
+    (λ c. search needs)
+    (λ c κs. search needs)
+    (λ c. search needs)
+    (λ c. search (needs, row-past))
+    (λ c κs. search needs)
+    (λ c κs. search needs)
+    (λ c. search (needs, row-name))
+    (λ c. search (needs, row-flag)))

@@ -1,0 +1,107 @@
+// What 43 demands of an object's labels.
+ghost use mathlib.Core.Path.{_≡_};
+ghost use Prim.Native.Nat.{_+_, _*_, _≤_, _<_};
+ghost use lib.ListN.{length};
+ghost use Rattle.rules.specs.Buffers.{LabelRow, LabelsOk};
+ghost use Rattle.object.specs.Decides.{Decides};
+ghost use Rattle.object_check_labels.specs.Follows.{Flagged, Follows, Named};
+use base_capacities::ADDRESSES;
+use base_capacities::DEFINED;
+use base_capacities::EXTERNAL;
+use base_capacities::LABEL_CELLS;
+use base_capacities::LABEL_FLAG;
+use base_capacities::LABELS;
+use base_capacities::NAME_LENGTH;
+use base_capacities::NAME_START;
+use base_text::Order;
+
+// The last address that there is.
+const LAST_ADDRESS: u32 = ADDRESSES - 1;
+
+fn wide(x: u32) -> usize
+    ensures { λ r. ⌜ (r ≡ x) × (r < 4294967296) ⌝ }
+{
+    x as usize
+}
+
+// An address of two bytes, and a flag that is 0, or 1 beside the address 0.
+fn check_flag(address: u32, flag: u32) -> bool
+    ensures { λ r. ⌜ Decides (Flagged address flag) r ⌝ }
+{
+    if LAST_ADDRESS < address {
+        return false;
+    }
+    if flag == DEFINED {
+        return true;
+    }
+    if EXTERNAL < flag {
+        return false;
+    }
+    if address == 0 {
+        return true;
+    }
+    false
+}
+
+// The rules of one row.
+fn check_label(labels: &[u32], names: &[u8], k: usize) -> bool
+    requires { ⌜ k * 4 + 4 ≤ length (now labels) ⌝ }
+    ensures { λ r. ⌜ Decides (LabelRow (now (labels .entry)) (now (names .entry)) k) r ⌝ }
+{
+    let i = k * LABEL_CELLS;
+    let flagged = check_flag(labels[i], labels[i + LABEL_FLAG]);
+    if flagged {
+        let start = wide(labels[i + NAME_START]);
+        let size = wide(labels[i + NAME_LENGTH]);
+        if names.len() < start + size {
+            return false;
+        }
+        return object_names::is_label(object::label_name(labels, names, k));
+    }
+    false
+}
+
+// The name of row k is above that of the row before, both being good names.
+fn follows(labels: &[u32], names: &[u8], k: usize) -> bool
+    requires { ⌜ Named (now labels) (now names) k ⌝ }
+    ensures { λ r. ⌜ Decides (Follows (now (labels .entry)) (now (names .entry)) k) r ⌝ }
+{
+    if k == 0 {
+        return true;
+    }
+    let j = k - 1;
+    let before = object::label_name(labels, names, j);
+    let name = object::label_name(labels, names, k);
+    match base_text::compare_names(before, name) {
+        Order::Less => true,
+        Order::Same => false,
+        Order::Greater => false,
+    }
+}
+
+// The n label rows rise by name, and each keeps the rules of a row.
+pub fn check_labels(labels: &[u32], names: &[u8], n: usize) -> bool
+    ensures { λ r. ⌜ Decides (LabelsOk n (now (labels .entry)) (now (names .entry))) r ⌝ }
+{
+    if LABELS < n {
+        return false;
+    }
+    if labels.len() < n * LABEL_CELLS {
+        return false;
+    }
+    let mut k = 0;
+    while k < n {
+        let row = check_label(labels, names, k);
+        if row {
+            let up = follows(labels, names, k);
+            if up {
+                k += 1;
+            } else {
+                return false;
+            }
+        } else {
+            return false;
+        }
+    }
+    true
+}

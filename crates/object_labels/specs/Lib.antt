@@ -1,2 +1,0 @@
--- What the contracts of `object_labels` cite beside the rules. Assumes nothing.
-pub mod Follows

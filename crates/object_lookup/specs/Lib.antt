@@ -1,0 +1,2 @@
+-- What the contracts of `object_lookup` cite beside the rules. Assumes nothing.
+pub mod Told

@@ -1,0 +1,3 @@
+-- Laws that the proofs of `object_names` cite. Assumes nothing.
+pub mod Judged
+pub mod Upper

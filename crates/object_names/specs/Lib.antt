@@ -1,0 +1,2 @@
+-- What the contracts of `object_names` cite beside the rules. Assumes nothing.
+pub mod Whole

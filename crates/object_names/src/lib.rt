@@ -1,0 +1,77 @@
+// Names of labels: one label token in upper case, at most 64 bytes.
+ghost use mathlib.Core.Path.{_≡_};
+ghost use mathlib.Core.List.{map};
+ghost use Rattle.rules.specs.Base.{same};
+ghost use Rattle.rules.specs.Tokens.{upper, nextToken};
+ghost use Rattle.rules.specs.Objects.{goodName};
+ghost use Rattle.lex_token.specs.Coded.{coded};
+ghost use Rattle.object_names.specs.Whole.{isLabel, labelKind, wholeLabel};
+use lex_reserved::Ident;
+use lex_token::Next;
+use lex_token::Token;
+
+// A word that is not reserved.
+fn is_free(ident: Ident) -> bool
+    ensures { λ r. ⌜ r ≡ isLabel ident ⌝ }
+{
+    match ident {
+        Ident::Label => true,
+        Ident::Reserved(_) => false,
+    }
+}
+
+fn label_kind(token: Token) -> bool
+    ensures { λ r. ⌜ r ≡ labelKind token ⌝ }
+{
+    match token {
+        Token::Ident(ident) => is_free(ident),
+        Token::Unsigned(_) => false,
+        Token::Signed(_) => false,
+        Token::Reg(_) => false,
+        Token::Directive => false,
+        Token::String => false,
+        Token::Colon => false,
+        Token::Comma => false,
+        Token::NewLine => false,
+    }
+}
+
+// The first token of the bytes is a label, and is all of them.
+fn whole_label(name: &[u8]) -> bool
+    ensures { λ r. ⌜ r ≡ wholeLabel (now (name .entry)) (coded (nextToken (now (name .entry)) 0)) ⌝ }
+{
+    match lex::next_token(name, 0) {
+        Next::Took { token, start, end } => label_kind(token) & (start == 0) & (end == name.len()),
+        Next::End(_) => false,
+        Next::Refused {
+            number: _,
+            start: _,
+            end: _,
+        } => false,
+    }
+}
+
+// No byte is a small letter.
+fn is_upper(name: &[u8]) -> bool
+    ensures { λ r. ⌜ r ≡ same (now (name .entry)) (map upper (now (name .entry))) ⌝ }
+{
+    let mut i = 0;
+    while i < name.len() {
+        if name[i] == base_text::upper_case(name[i]) {
+            i += 1;
+        } else {
+            return false;
+        }
+    }
+    true
+}
+
+// The bytes are a good name.
+pub fn is_label(name: &[u8]) -> bool
+    ensures { λ r. ⌜ r ≡ goodName (now (name .entry)) ⌝ }
+{
+    if base_capacities::NAME_BYTES < name.len() {
+        return false;
+    }
+    whole_label(name) & is_upper(name)
+}

@@ -1,2 +1,0 @@
--- What the contracts of `object_writing` cite beside the rules. Assumes nothing.
-pub mod Made

@@ -1,2 +1,0 @@
--- What the contracts of `operands` cite beside the rules. Assumes nothing.
-pub mod Coded

@@ -1,0 +1,27 @@
+-- `parse_labels::walk_labels` meets its contract. Assumes nothing.
+use Prim.Native.Nat.{_-_}
+use borrow.Author.Needs.{needs}
+use lib.ListN.{length}
+use Rattle.parse_labels.proofs.Labelled.{Walking, walk-start, walk-more, walk-less, walk-stop}
+use Rattle.parse_labels.proofs.walk_labels.Statement.{statement}
+use Rattle.parse_labels.proofs.walk_labels.Tie as tie
+
+abbrev Inv-loop : tie.InvT-loop
+Inv-loop src at i₀ labelled₀ colon₀ i labelled colon = Walking src at i labelled colon
+
+abbrev μ-loop : tie.MeasureT-loop
+μ-loop src at i₀ labelled₀ colon₀ i labelled colon = length src - i
+
+pub walk-labels-spec : {M : Type 1} → statement M
+walk-labels-spec =
+    tie.close
+    (tie.spec
+    Inv-loop
+    μ-loop
+    (λ c. search (needs, walk-start))
+    (λ c κs. search needs)
+    (λ c κs. search needs)
+    (λ c κs. search needs)
+    (λ c. search (needs, walk-less))
+    (λ c. search (needs, walk-more))
+    (λ c. search (needs, walk-stop)))

@@ -1,0 +1,3 @@
+-- Laws that the proofs of `pass1` cite. Assumes nothing.
+pub mod Steps
+pub mod Loop

@@ -1,0 +1,98 @@
+-- What each way through a step of pass one shows. Assumes nothing.
+use mathlib.Core.Path.{_≡_, sym, _∙_, ap}
+use mathlib.Core.Bool.{false}
+use mathlib.Core.List.{List}
+use Prim.Native.Nat.{ℕ, _-_, _<_}
+use Rattle.rules.specs.Base.{Outcome, ok, refuse2, _>>=_, span}
+use Rattle.rules.specs.Statements.{Name, Stmt, labelsAt}
+use Rattle.rules.specs.Passes.{Pass1State, wordLen, labelled, directed, advanced}
+use Rattle.pass1_symbols.specs.Symbols.{symbols}
+use Rattle.pass1_relocations.specs.Pending.{notes}
+use Rattle.parse.specs.declared.Statement.{Statement}
+use Rattle.parse_meaning.specs.Reading.{Faithful}
+use Rattle.pass1_state.specs.declared.Pass1State as code
+use Rattle.pass1_state.specs.declared.Pass1Step.{Pass1Step}
+use Rattle.pass1_state.specs.declared.Pass1Step.the-variants.{Went, Refused}
+use Rattle.pass1_state.specs.State.{viewPass1, told, Steady}
+use Rattle.pass1_state.specs.State as counting
+use Rattle.pass1_labels.specs.Tables as naming
+use Rattle.pass1_fill.specs.Tables.{seen, Held, Stepping}
+use Rattle.pass1_directive.specs.Sound.{Sound}
+use Rattle.pass1_directive.proofs.Directing.{sound, over-none, over-names}
+use Rattle.pass1.specs.Steps.{stepOn, stepPass1, Stands}
+
+-- ONE STEP AFTER ANOTHER
+module _ (rs qs src rs′ qs′ : List ℕ) (o : code.Pass1State) (f : Pass1State → Outcome Pass1State) (a : Pass1Step) (k : Stepping rs qs src rs′ qs′ o f a) (g : Pass1State → Outcome Pass1State) where
+  then-went : (b : code.Pass1State) → a ≡ Went b → (rs″ qs″ : List ℕ) (r : Pass1Step) → Stepping rs′ qs′ src rs″ qs″ b g r → Stepping rs qs src rs″ qs″ o (λ v. f v >>= g) r
+  then-went b q rs″ qs″ r j =
+      let w : f (seen rs qs src o) ≡ ok (seen rs′ qs′ src b) = sym (k .rule) ∙ ap (told (λ n. symbols n rs′ src) (λ n. notes n qs′ src)) q in
+      record { rule = j .rule ∙ sym (ap (λ (x : Outcome Pass1State). x >>= g) w); kept = j .kept }
+
+  then-refused : (n c d e l : ℕ) → a ≡ Refused n c d e l → Stepping rs qs src rs′ qs′ o (λ v. f v >>= g) a
+  then-refused n c d e l q =
+      let w : f (seen rs qs src o) ≡ refuse2 n (span c d) (span e l) = sym (k .rule) ∙ ap (told (λ n. symbols n rs′ src) (λ n. notes n qs′ src)) q in
+      record {
+        rule = ap (told (λ n. symbols n rs′ src) (λ n. notes n qs′ src)) q ∙ sym (ap (λ (x : Outcome Pass1State). x >>= g) w);
+        kept = k .kept;
+      }
+
+-- AFTER THE LABELS
+pub stands-sound : (src : List ℕ) (st : Statement) → Stands src st → Sound src st
+stands-sound src st w = sound src (w .at) st (w .stmt) (w .faithful)
+
+pub stands-low : (src : List ℕ) (st : Statement) → Stands src st → st .bits < 65536
+stands-low src st w = stands-sound src st w .low
+
+module _ (rs qs src : List ℕ) (o : code.Pass1State) (st : Statement) (w : Stands src st) (rs′ qs′ : List ℕ) (a : Pass1Step)
+    (k : (at : ℕ) (s : Stmt) → Faithful src at st s → Stepping rs qs src rs′ qs′ o (λ v. directed (s .op) s v) a) where
+  pub on-refused : (n c d e l : ℕ) → a ≡ Refused n c d e l → (at : ℕ) (s : Stmt) → Faithful src at st s → Stepping rs qs src rs′ qs′ o (stepOn s) a
+  unfolding stepOn
+  on-refused n c d e l q at s f = then-refused rs qs src rs′ qs′ o (λ v. directed (s .op) s v) a (k at s f) (λ b. advanced (wordLen (s .op) s) (s .place) b) n c d e l q
+
+  module _ (b : code.Pass1State) (q : a ≡ Went b) where
+    on-held : Held rs′ qs′ src b
+    on-held = k (w .at) (w .stmt) (w .faithful) .kept b q
+
+    pub on-steady : Steady b
+    on-steady = on-held .lent .steady
+
+    pub on-went : (n : ℕ) → ((at : ℕ) (s : Stmt) → Faithful src at st s → n ≡ wordLen (s .op) s) → (r : Pass1Step)
+        → counting.Stepping b (λ x y. advanced n (span (st .start) (st .end)) (viewPass1 x y b)) r → (at : ℕ) (s : Stmt) → Faithful src at st s → Stepping rs qs src rs′ qs′ o (stepOn s) r
+    unfolding stepOn
+    on-went n z r j at s f =
+        let u = over-none rs′ qs′ src b on-held (λ v. advanced n (span (st .start) (st .end)) v) r j in
+        let v : Stepping rs′ qs′ src rs′ qs′ b (λ v. advanced (wordLen (s .op) s) (s .place) v) r = record {
+          rule = u .rule ∙ (λ i. advanced (z at s f i) (sym (f .place) i) (seen rs′ qs′ src b));
+          kept = u .kept;
+        } in
+        then-went rs qs src rs′ qs′ o (λ v. directed (s .op) s v) a (k at s f) (λ b. advanced (wordLen (s .op) s) (s .place) b) b q rs′ qs′ r v
+
+-- WITHOUT LABELS
+module _ (rs qs src : List ℕ) (o : code.Pass1State) (st : Statement) (rs′ qs′ : List ℕ) (r : Pass1Step) (z : st .labelled ≡ false)
+    (k : (at : ℕ) (s : Stmt) → Faithful src at st s → Stepping rs qs src rs′ qs′ o (stepOn s) r) where
+  pub step-bare : (at : ℕ) (s : Stmt) → Faithful src at st s → Stepping rs qs src rs′ qs′ o (stepPass1 s) r
+  unfolding stepPass1 labelled
+  step-bare at s f =
+      let q : stepPass1 s (seen rs qs src o) ≡ stepOn s (seen rs qs src o) = ap (λ (ls : List Name). labelled ls (s .place) (seen rs qs src o) >>= stepOn s) (f .unlabelled z) in
+      record { rule = k at s f .rule ∙ sym q; kept = k at s f .kept }
+
+-- FROM THE LABELS ON
+pub step-held : (rs qs src : List ℕ) (o : code.Pass1State) → Held rs qs src o → (rs′ : List ℕ) (f : Pass1State → Outcome Pass1State) (a : Pass1Step) → naming.Stepping rs src rs′ o f a → (b : code.Pass1State) → a ≡ Went b → Held rs′ qs src b
+step-held rs qs src o h rs′ f a k b q = over-names rs qs src o h rs′ f a k .kept b q
+
+module _ (rs qs src : List ℕ) (o : code.Pass1State) (h : Held rs qs src o) (st : Statement) (at : ℕ) (rs′ : List ℕ) (a : Pass1Step)
+    (k : naming.Stepping rs src rs′ o (λ v. labelled (labelsAt src at) (span (st .start) (st .end)) v) a) where
+  both : Stepping rs qs src rs′ qs o (λ v. labelled (labelsAt src at) (span (st .start) (st .end)) v) a
+  both = over-names rs qs src o h rs′ (λ v. labelled (labelsAt src at) (span (st .start) (st .end)) v) a k
+
+  labels-by : (s : Stmt) → Faithful src at st s → Stepping rs qs src rs′ qs o (λ v. labelled (s .labels) (s .place) v) a
+  labels-by s f = record { rule = both .rule ∙ (λ i. labelled (sym (f .labels) i) (sym (f .place) i) (seen rs qs src o)); kept = both .kept }
+
+  pub step-refused : (n c d e l : ℕ) → a ≡ Refused n c d e l → (s : Stmt) → Faithful src at st s → Stepping rs qs src rs′ qs o (stepPass1 s) a
+  unfolding stepPass1
+  step-refused n c d e l q s f = then-refused rs qs src rs′ qs o (λ v. labelled (s .labels) (s .place) v) a (labels-by s f) (stepOn s) n c d e l q
+
+  module _ (b : code.Pass1State) (q : a ≡ Went b) where
+    pub step-went : (rs″ qs″ : List ℕ) (r : Pass1Step) → ((at : ℕ) (s : Stmt) → Faithful src at st s → Stepping rs′ qs src rs″ qs″ b (stepOn s) r) → (s : Stmt) → Faithful src at st s → Stepping rs qs src rs″ qs″ o (stepPass1 s) r
+    unfolding stepPass1
+    step-went rs″ qs″ r j s f = then-went rs qs src rs′ qs o (λ v. labelled (s .labels) (s .place) v) a (labels-by s f) (stepOn s) b q rs″ qs″ r (j at s f)

@@ -1,0 +1,64 @@
+-- `pass1::pass_one` meets its contract. Assumes nothing.
+use Prim.Native.Nat.{_-_}
+use lib.ListN.{length}
+use borrow.Author.Needs.{needs}
+use Rattle.parse.proofs.All.{rest-less}
+use Rattle.pass1.proofs.Loop.{Going, going-start, going-stands, going-on, going-refused, going-end, going-stop}
+use Rattle.pass1.proofs.pass_one.Statement.{statement}
+use Rattle.pass1.proofs.pass_one.Tie as tie
+
+abbrev Inv-loop : tie.InvT-loop
+Inv-loop src labels₀ relocations₀ at₀ o₀ labels relocations at o = Going labels₀ relocations₀ labels relocations src at o
+
+abbrev μ-loop : tie.MeasureT-loop
+μ-loop src labels₀ relocations₀ at₀ o₀ labels relocations at o = length src - at
+
+loop-holds : tie.Need-loop-holds Inv-loop μ-loop
+loop-holds c = going-start _ _ _ (c .before .before .before .before .pre .0) (c .before .before .before .before .pre .1) (c .before .before .before .before .pre .2) _ (c .begin .ensures)
+
+step-requires : tie.Need-step-requires Inv-loop μ-loop
+step-requires c κs = (search needs, going-stands _ _ _ _ _ _ _ (c .before .before .before .before .before .before .loop .inv) _ (c .before .before .before .before .before .next-statement .ensures) _ (c .before .before .before .st .given .1))
+
+loop-less : tie.Need-loop-less Inv-loop μ-loop
+loop-less c = rest-less _ _ _ (c .before .before .before .before .before .before .before .before .before .before .before .before .before .next-statement .ensures) _ (c .before .before .before .before .before .before .before .before .before .before .before .st .given .1)
+
+loop-again : tie.Need-loop-again Inv-loop μ-loop
+loop-again c = going-on _ _ _ _ _ _ _ (c .before .before .before .before .before .before .before .before .before .before .before .before .before .before .loop .inv) _ (c .before .before .before .before .before .before .before .before .before .before .before .before .before .next-statement .ensures) _ (c .before .before .before .before .before .before .before .before .before .before .before .st .given .1) _ _ _ (c .before .before .before .before .before .before .before .step .ensures) _ (c .before .answer .given .1) (search needs) (search needs)
+
+returns : tie.Need-returns Inv-loop μ-loop
+returns c = going-refused _ _ _ _ _ _ _ (c .before .before .before .before .before .before .before .before .before .before .before .before .before .loop .inv) _ (c .before .before .before .before .before .before .before .before .before .before .before .before .next-statement .ensures) _ (c .before .before .before .before .before .before .before .before .before .before .st .given .1) _ _ _ (c .before .before .before .before .before .before .step .ensures) _ _ _ _ _ (c .enum-told .given .1)
+
+returns-2 : tie.Need-returns-2 Inv-loop μ-loop
+returns-2 c = going-end _ _ _ _ _ _ _ (c .before .before .before .before .loop .inv) _ (c .before .before .before .next-statement .ensures) (c .before .enum-told2 .given .1) _ (c .finish .ensures)
+
+returns-3 : tie.Need-returns-3 Inv-loop μ-loop
+returns-3 c = going-stop _ _ _ _ _ _ _ (c .before .before .before .before .before .loop .inv) _ (c .before .before .before .before .next-statement .ensures) _ _ _ (c .before .before .number .given .1) _ (c .refused .ensures)
+
+pub pass-one-spec : {M : Type 1} → statement M
+pass-one-spec =
+    tie.close
+    (tie.spec
+    Inv-loop
+    μ-loop
+    (λ c κs. search needs)
+    loop-holds
+    (λ c κs. search needs)
+    (λ c. search needs)
+    step-requires
+    (λ c. search needs)
+    loop-less
+    loop-again
+    (λ c. search needs)
+    (λ c. search needs)
+    (λ c. search needs)
+    returns
+    (λ c. search needs)
+    (λ c κs. search needs)
+    (λ c. search needs)
+    (λ c. search needs)
+    returns-2
+    (λ c. search needs)
+    (λ c κs. search needs)
+    (λ c. search needs)
+    (λ c. search needs)
+    returns-3)

@@ -1,0 +1,2 @@
+-- What the contracts of `pass1` cite beside the rules. Assumes nothing.
+pub mod Steps

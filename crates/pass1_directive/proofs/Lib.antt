@@ -1,0 +1,2 @@
+-- Laws that the proofs of `pass1_directive` cite. Assumes nothing.
+pub mod Directing

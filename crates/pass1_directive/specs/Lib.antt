@@ -1,0 +1,2 @@
+-- What the contracts of `pass1_directive` cite beside the rules. Assumes nothing.
+pub mod Sound

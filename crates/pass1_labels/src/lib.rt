@@ -1,0 +1,229 @@
+// Pass one at names: they go into the symbol table, the labels before a statement at the counter, that of an .external at 0.
+use base_capacities::DEFINED;
+use base_capacities::EXTERNAL;
+use parse_labels::NextLabel;
+use pass1_state::Pass1State;
+use pass1_state::Pass1Step;
+use pass1_symbols::Added;
+ghost use mathlib.Core.Path.{_≡_};
+ghost use mathlib.Core.Option.{some};
+ghost use Prim.Native.Nat.{_+_, _*_, _≤_};
+ghost use lib.ListN.{length, getD};
+ghost use Rattle.rules.specs.Base.{span};
+ghost use Rattle.rules.specs.Words.{external};
+ghost use Rattle.rules.specs.Statements.{Stmt, Target, labelsAt};
+ghost use Rattle.rules.specs.Passes.{labelled, directed};
+ghost use Rattle.pass1_labels.specs.Naming.{NameReady, NameAdded, NamesReady, NamesAdded};
+ghost use Rattle.parse_labels.specs.Names.{nameBetween, Between};
+ghost use Rattle.pass1_labels.specs.Tables.{withLabels, stepOf, Lent, Stepping};
+
+// The table has so many rows, with what was added; or the refusal with its number and both spans.
+pub enum LabelsAdded {
+    Held(usize),
+    Refused {
+        number: u16,
+        start: usize,
+        end: usize,
+        start2: usize,
+        end2: usize,
+    },
+}
+
+fn wide(x: u32) -> usize
+    ensures { λ r. ⌜ r ≡ x ⌝ }
+{
+    x as usize
+}
+
+fn narrow(x: usize) -> u32
+    requires { ⌜ x ≤ 262144 ⌝ }
+    ensures { λ r. ⌜ r ≡ x ⌝ }
+{
+    x as u32
+}
+
+// A cell of row k.
+fn cell(rows: &[u32], k: usize, j: usize) -> u32
+    requires { ⌜ (k * 4 + 4 ≤ length (now rows)) × (j ≤ 3) ⌝ }
+    ensures { λ r. ⌜ r ≡ getD (now (rows .entry)) (k * 4 + j) 0 ⌝ }
+{
+    let i = k * base_capacities::LABEL_CELLS + j;
+    rows[i]
+}
+
+// 25: the name of row k, and the one at another address.
+fn clash(rows: &[u32], k: usize, from: usize, to: usize) -> LabelsAdded
+    requires { ⌜ k * 4 + 4 ≤ length (now rows) ⌝ }
+    ensures { λ r. ⌜ r ≡ LabelsAdded.Refused 25 (getD (now (rows .entry)) (k * 4 + 2) 0) (getD (now (rows .entry)) (k * 4 + 2) 0 + getD (now (rows .entry)) (k * 4 + 3) 0) from to ⌝ }
+{
+    let start = wide(cell(rows, k, base_capacities::NAME_START));
+    let size = wide(cell(rows, k, base_capacities::NAME_LENGTH));
+    LabelsAdded::Refused {
+        number: base_refusals::OVERLAPPING_LABELS,
+        start,
+        end: start + size,
+        start2: from,
+        end2: to,
+    }
+}
+
+// The name between two places of the source, at an address, for a statement from `start` up to `end`; the flag is 1 of an external.
+pub fn add_label(
+    src: &[u8],
+    rows: &mut [u32],
+    n: usize,
+    address: u32,
+    flag: u32,
+    from: usize,
+    to: usize,
+    start: usize,
+    end: usize,
+) -> LabelsAdded
+    requires { ⌜ NameReady (now rows) (now src) n address flag from to ⌝ }
+    ensures { λ r. ⌜ NameAdded (now (rows .entry)) (now (src .entry)) (now (rows .exit)) n address flag from to (span start end) r ⌝ }
+{
+    let first = narrow(from);
+    let size = narrow(to - from);
+    match pass1_symbols::add_symbol(rows, src, n, address, flag, first, size) {
+        Added::Held(m) => LabelsAdded::Held(m),
+        Added::Clash(k) => clash(rows, k, from, to),
+        Added::Full => LabelsAdded::Refused {
+            number: base_refusals::TABLE_FULL,
+            start,
+            end,
+            start2: 0,
+            end2: 0,
+        },
+    }
+}
+
+// All labels from a place on, at an address, for a statement from `start` up to `end`.
+pub fn add_labels(
+    src: &[u8],
+    rows: &mut [u32],
+    at: usize,
+    n: usize,
+    address: u32,
+    start: usize,
+    end: usize,
+) -> LabelsAdded
+    requires { ⌜ NamesReady (now rows) (now src) n address ⌝ }
+    ensures { λ r. ⌜ NamesAdded (now (rows .entry)) (now (src .entry)) (now (rows .exit)) at n address (span start end) r ⌝ }
+{
+    let mut i = at;
+    let mut held = n;
+    loop {
+        match parse_labels::next_label(src, i) {
+            NextLabel::Label {
+                start: from,
+                end: to,
+                next,
+            } => {
+                let answer = add_label(src, rows, held, address, DEFINED, from, to, start, end);
+                match answer {
+                    LabelsAdded::Held(m) => {
+                        held = m;
+                        i = next;
+                    }
+                    LabelsAdded::Refused {
+                        number: _,
+                        start: _,
+                        end: _,
+                        start2: _,
+                        end2: _,
+                    } => {
+                        return answer;
+                    }
+                }
+            }
+            NextLabel::Done => {
+                return LabelsAdded::Held(held);
+            }
+        }
+    }
+}
+
+// The state with so many rows of symbols.
+pub fn with_labels(o: Pass1State, labels: usize) -> Pass1State
+    ensures { λ r. ⌜ r ≡ withLabels o labels ⌝ }
+{
+    Pass1State {
+        inside: o.inside,
+        start: o.start,
+        counter: o.counter,
+        orig_start: o.orig_start,
+        orig_end: o.orig_end,
+        labels,
+        relocations: o.relocations,
+        blocks: o.blocks,
+        words: o.words,
+    }
+}
+
+// What adding names answers, as a step from a state.
+pub fn step_of(o: Pass1State, answer: LabelsAdded) -> Pass1Step
+    ensures { λ r. ⌜ r ≡ stepOf o answer ⌝ }
+{
+    match answer {
+        LabelsAdded::Held(n) => Pass1Step::Went(with_labels(o, n)),
+        LabelsAdded::Refused {
+            number,
+            start,
+            end,
+            start2,
+            end2,
+        } => Pass1Step::Refused {
+            number,
+            start,
+            end,
+            start2,
+            end2,
+        },
+    }
+}
+
+// The labels from a place on, for a statement from `start` up to `end`: 20 at the first where no block is open.
+pub fn define_labels(
+    src: &[u8],
+    rows: &mut [u32],
+    at: usize,
+    o: Pass1State,
+    start: usize,
+    end: usize,
+) -> Pass1Step
+    requires { ⌜ Lent (now rows) (now src) o ⌝ }
+    ensures { λ r. ⌜ Stepping (now (rows .entry)) (now (src .entry)) (now (rows .exit)) o (λ v. labelled (labelsAt (now (src .entry)) at) (span start end) v) r ⌝ }
+{
+    if o.inside {
+        let n = o.labels;
+        let address = o.counter;
+        let answer = add_labels(src, rows, at, n, address, start, end);
+        return step_of(o, answer);
+    }
+    match parse_labels::next_label(src, at) {
+        NextLabel::Label {
+            start: from,
+            end: to,
+            next: _,
+        } => pass1_state::refused(base_refusals::UNDET_ADDR_LABEL, from, to),
+        NextLabel::Done => Pass1Step::Went(o),
+    }
+}
+
+// .external of the name between two places, a statement from `start` up to `end`.
+pub fn add_external(
+    src: &[u8],
+    rows: &mut [u32],
+    o: Pass1State,
+    from: usize,
+    to: usize,
+    start: usize,
+    end: usize,
+) -> Pass1Step
+    requires { ⌜ Lent (now rows) (now src) o × Between (now src) from to ⌝ }
+    ensures { λ r. ⌜ ((s : Stmt) (t : Target) → s .target ≡ some t → t .name ≡ nameBetween (now (src .entry)) from to → s .place ≡ span start end → Stepping (now (rows .entry)) (now (src .entry)) (now (rows .exit)) o (λ v. directed external s v) r) ⌝ }
+{
+    let n = o.labels;
+    let answer = add_label(src, rows, n, 0, EXTERNAL, from, to, start, end);
+    step_of(o, answer)
+}

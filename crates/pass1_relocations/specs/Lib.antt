@@ -1,0 +1,3 @@
+-- What the contracts of `pass1_relocations` cite beside the rules. Assumes nothing.
+pub mod Pending
+pub mod Resolved

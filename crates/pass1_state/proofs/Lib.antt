@@ -1,0 +1,3 @@
+-- Laws that the proofs of `pass1_state` cite. Assumes nothing.
+pub mod Rule
+pub mod Counting

@@ -1,3 +1,0 @@
--- Laws that the proofs of `pass_one` cite. Assumes nothing.
-pub mod Steps
-pub mod Loop

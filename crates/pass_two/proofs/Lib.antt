@@ -1,4 +1,0 @@
--- Laws that the proofs of `pass_two` cite, and what pass two leaves. Assumes nothing.
-pub mod Room
-pub mod Loop
-pub mod Leaving

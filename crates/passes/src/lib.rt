@@ -1,1 +1,0 @@
-// Laws of the two passes, on the rules alone, in proofs/. Nothing runs here.

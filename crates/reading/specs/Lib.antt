@@ -1,2 +1,0 @@
--- What the contracts of `reading` cite beside the rules. Assumes nothing.
-pub mod Reading

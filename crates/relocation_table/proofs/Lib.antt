@@ -1,3 +1,0 @@
-pub mod Halving
-pub mod Steps
-pub mod Laid

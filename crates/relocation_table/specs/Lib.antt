@@ -1,3 +1,0 @@
--- What the contracts of `relocation_table` cite beside the rules. Assumes nothing.
-pub mod Pending
-pub mod Resolved

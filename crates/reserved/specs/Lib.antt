@@ -1,3 +1,0 @@
--- What the contracts of `reserved` cite. Assumes nothing.
-pub mod Ident
-pub mod Table

@@ -1,2 +1,0 @@
--- Laws that the proofs of `source_tables` cite. Assumes nothing.
-pub mod Checked

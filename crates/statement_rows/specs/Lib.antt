@@ -1,2 +1,0 @@
--- What the contracts of `statement_rows` cite beside the rules. Assumes nothing.
-pub mod Rows

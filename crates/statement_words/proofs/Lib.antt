@@ -1,2 +1,0 @@
--- Laws that the proofs of `statement_words` cite. Assumes nothing.
-pub mod Wording

@@ -1,2 +1,0 @@
--- What the contracts of `statement_words` cite beside the rules. Assumes nothing.
-pub mod Worded

@@ -1,3 +1,0 @@
--- What the contracts of `symbols` cite beside the rules. Assumes nothing.
-pub mod Symbols
-pub mod Adding

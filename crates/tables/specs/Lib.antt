@@ -1,2 +1,0 @@
--- What the contracts of `tables` cite. Assumes nothing.
-pub mod Opened

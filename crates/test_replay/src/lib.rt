@@ -1,0 +1,131 @@
+// Whether a source, assembled into buffers that may lack some of their full sizes, is answered as asked.
+use asm::Answer;
+use list::Listed;
+use object::Counts;
+ghost use Prim.Native.Nat.{_≤_};
+
+// How many numbers each lent buffer lacks of its full size, and where the field after them begins.
+pub struct Lacking {
+    pub blocks: usize,
+    pub words: usize,
+    pub marks: usize,
+    pub labels: usize,
+    pub relocations: usize,
+    pub names: usize,
+    pub next: usize,
+}
+
+// What is left of a full size that lacks so many.
+fn left(full: usize, lacking: usize) -> usize
+    ensures { λ r. ⌜ r ≤ full ⌝ }
+{
+    if full < lacking {
+        return 0;
+    }
+    full - lacking
+}
+
+fn same_answer(a: Answer, b: Answer) -> bool {
+    (a.number == b.number)
+        & (a.start == b.start)
+        & (a.end == b.end)
+        & (a.start2 == b.start2)
+        & (a.end2 == b.end2)
+        & (a.blocks == b.blocks)
+        & (a.words == b.words)
+        & (a.labels == b.labels)
+        & (a.relocations == b.relocations)
+}
+
+// Whether a listing of less than 400 bytes is that of the digits, and a longer one has none.
+fn same_listing(listed: Listed, text: &[u8], digits: &[u8]) -> bool {
+    match listed {
+        Listed::Bytes(n) => {
+            if n <= text.len() {
+                return test_support::same_hex(&text[0..n], digits);
+            }
+            false
+        }
+        Listed::Refused(number) => (number == 51) & (digits.len() == 0),
+    }
+}
+
+// Whether the listing of an accepted object is the one asked for.
+fn listed_right(
+    c: Counts,
+    blocks: &[u16],
+    words: &[u16],
+    marks: &[u8],
+    labels: &[u32],
+    relocations: &[u32],
+    names: &[u8],
+    digits: &[u8],
+) -> bool {
+    let mut text = [0u8; 399];
+    let listed = list::list(
+        c,
+        blocks,
+        words,
+        marks,
+        labels,
+        relocations,
+        names,
+        &mut text,
+    );
+    same_listing(listed, &text, digits)
+}
+
+// Whether a source is answered as asked in these buffers.
+fn answered(
+    src: &[u8],
+    asked: Answer,
+    digits: &[u8],
+    blocks: &mut [u16],
+    words: &mut [u16],
+    marks: &mut [u8],
+    labels: &mut [u32],
+    relocations: &mut [u32],
+    names: &mut [u8],
+) -> bool {
+    let got = asm::assemble(src, blocks, words, marks, labels, relocations, names);
+    if same_answer(got, asked) {
+        if got.number == 0 {
+            let c = Counts {
+                blocks: got.blocks,
+                words: got.words,
+                labels: got.labels,
+                relocations: got.relocations,
+            };
+            return listed_right(c, blocks, words, marks, labels, relocations, names, digits);
+        }
+        return true;
+    }
+    false
+}
+
+// Whether a source is answered as asked in buffers that lack so much of their full sizes.
+pub fn replayed(src: &[u8], lacking: Lacking, asked: Answer, digits: &[u8]) -> bool {
+    let mut blocks = [0u16; 128];
+    let mut words = [0u16; 65024];
+    let mut marks = [0u8; 65024];
+    let mut labels = [0u32; 4096];
+    let mut relocations = [0u32; 2048];
+    let mut names = [0u8; 65536];
+    let b = left(128, lacking.blocks);
+    let w = left(65024, lacking.words);
+    let m = left(65024, lacking.marks);
+    let l = left(4096, lacking.labels);
+    let r = left(2048, lacking.relocations);
+    let n = left(65536, lacking.names);
+    answered(
+        src,
+        asked,
+        digits,
+        &mut blocks[0..b],
+        &mut words[0..w],
+        &mut marks[0..m],
+        &mut labels[0..l],
+        &mut relocations[0..r],
+        &mut names[0..n],
+    )
+}

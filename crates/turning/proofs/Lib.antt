@@ -1,3 +1,0 @@
-pub mod Reversing
-pub mod Turns
-pub mod Moved

@@ -1,2 +1,0 @@
--- What the contracts of `turning` cite. Assumes nothing.
-pub mod Turned

@@ -1,0 +1,66 @@
+// An assembled source printed on standard output for a person: the object word by word, or the refusal with its places underlined.
+use asm::Answer;
+use object::Counts;
+
+fn wide(n: u16) -> usize {
+    n as usize
+}
+
+// The counts of an accepted object.
+fn counts_of(answer: Answer) -> Counts {
+    Counts {
+        blocks: answer.blocks,
+        words: answer.words,
+        labels: answer.labels,
+        relocations: answer.relocations,
+    }
+}
+
+// A refusal of this source.
+fn print_refused(src: &[u8], answer: Answer) {
+    view_refusal::print_refusal(
+        src,
+        wide(answer.number),
+        answer.start,
+        answer.end,
+        answer.start2,
+        answer.end2,
+    );
+}
+
+// A source that the program does not hold.
+pub fn print_too_long() {
+    view_refusal::print_placeless(11);
+}
+
+// A source in the program's 32,768 words.
+pub fn print_source(src: &[u8]) {
+    let mut blocks = [0u16; 128];
+    let mut words = [0u16; 32768];
+    let mut marks = [0u8; 32768];
+    let mut labels = [0u32; 4096];
+    let mut relocations = [0u32; 2048];
+    let mut names = [0u8; 65536];
+    let answer = asm::assemble(
+        src,
+        &mut blocks,
+        &mut words,
+        &mut marks,
+        &mut labels,
+        &mut relocations,
+        &mut names,
+    );
+    if answer.number == 0 {
+        view_object::print_object(
+            counts_of(answer),
+            &blocks,
+            &words,
+            &marks,
+            &labels,
+            &relocations,
+            &names,
+        );
+        return;
+    }
+    print_refused(src, answer);
+}

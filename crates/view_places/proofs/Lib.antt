@@ -1,0 +1,3 @@
+-- Laws that the proofs of `view_places` cite. Assumes nothing.
+pub mod LineLaws
+pub mod NameLaws

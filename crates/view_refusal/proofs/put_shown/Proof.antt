@@ -1,0 +1,29 @@
+-- `view_refusal::put_shown` is safe and ends. Assumes nothing.
+use Prim.Native.Nat.{_-_}
+use mathlib.Core.Path.{_≡_}
+use lib.ListN.{length}
+use borrow.Author.Needs.{needs}
+use Rattle.view_refusal.proofs.put_shown.Statement.{statement}
+use Rattle.view_refusal.proofs.put_shown.Tie as tie
+
+abbrev Inv-loop : tie.InvT-loop
+Inv-loop out₀ at src from to i₀ end₀ out i end = length out ≡ length out₀
+
+abbrev μ-loop : tie.MeasureT-loop
+μ-loop out₀ at src from to i₀ end₀ out i end = to - i
+
+pub put-shown-spec : {M : Type 1} → statement M
+put-shown-spec =
+    tie.close
+    (tie.spec
+    Inv-loop
+    μ-loop
+    (λ c. search needs)
+    (λ c κs. search needs)
+    (λ c κs. search needs)
+    (λ c κs. search needs)
+    (λ c. search needs)
+    (λ c. search needs)
+    (λ c. search needs)
+    (λ c. search needs)
+    (λ c. search needs))

@@ -1,0 +1,25 @@
+-- `view_word::label_row` is safe and ends. Assumes nothing.
+use Prim.Native.Nat.{_-_}
+use borrow.Author.Needs.{needs}
+use Rattle.view_word.proofs.label_row.Statement.{statement}
+use Rattle.view_word.proofs.label_row.Tie as tie
+
+abbrev Inv-loop : tie.InvT-loop
+Inv-loop labels n address row₀ row = Unit {0}
+
+abbrev μ-loop : tie.MeasureT-loop
+μ-loop labels n address row₀ row = n - row
+
+pub label-row-spec : {M : Type 1} → statement M
+label-row-spec =
+    tie.close
+    (tie.spec
+    Inv-loop
+    μ-loop
+    (λ c. search needs)
+    (λ c κs. search needs)
+    (λ c. search needs)
+    (λ c. search needs)
+    (λ c. search needs)
+    (λ c. search needs)
+    (λ c. search needs))

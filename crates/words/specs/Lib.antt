@@ -1,4 +1,0 @@
--- What this crate's types mean, in the terms of `rules`. Assumes nothing.
-pub mod Fields
-pub mod Instructions
-pub mod Disassembly
