@@ -16,7 +16,7 @@ use Rattle.rules.specs.Statements.{Stmt, Target}
 use Rattle.rules.specs.Tables.{Table}
 use Rattle.rules.specs.Objects.{Cell, unset, word, Name}
 use Rattle.rules.specs.Passes.{Symbol, Cursor, Pass1State, pass1Start, wordLen, passOne, address, offsetTo, wordsOf, ObjBlock, objBlock, Pass2State, pass2State, pass2Start, rangesOverlap, overlapping, place, emit, finish, written}
-use Rattle.rules.proofs.Following.{gave}
+use Rattle.rules.proofs.Gave.{gave}
 use Rattle.rules.proofs.Bools.{never}
 use Rattle.laws.proofs.Steps.{shifted, Same, Begins, Counted, Dropped, Ends, Goes, Does, Step, step, grows}
 

@@ -16,7 +16,7 @@ use Rattle.rules.specs.Statements as S
 use Rattle.rules.specs.Tables.{Table, Tri, less, same, more, Order, put, look, Sorted, insert, newer, natOrder, nameOrder}
 use Rattle.rules.specs.Objects.{Lab, outer, defined, addressOf, Name, goodName}
 use Rattle.rules.specs.Passes.{Symbol, symbol, Cursor, Pass1State, pass1State, pass1Start, withCursor, withSymbols, withRelocs, wordLen, addLabel, addLabels, labelled, relocated, filled, closed, directed, advanced, passOne}
-use Rattle.rules.proofs.Following.{gave}
+use Rattle.rules.proofs.Gave.{gave}
 use Rattle.laws.proofs.Steps.{shifted, Goes, Does, Step, step, ended}
 use Rattle.rules.proofs.Tables.{none-some, join, sorted-insert, look-insert-here, look-insert-there, length-insert, look-there, look-low, low-down, lt-ne}
 use Rattle.rules.proofs.Bools.{never}

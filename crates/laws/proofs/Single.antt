@@ -118,7 +118,7 @@ module _ (s : List ℕ) where
 
   instr-single : (ls : List Name) (r : Row) (t : Token) → Single (instrRead s ls r t)
   unfolding instrRead
-  instr-single ls r t = single-if (eqb (r .base) 0) _ _ (row-single ls r t (if tokenIs ends s (t .place .stop) then [] else r .fields) 13) (row-single ls r t (r .fields) 14)
+  instr-single ls r t = single-if (r .optional) _ _ (row-single ls r t (if tokenIs ends s (t .place .stop) then [] else r .fields) 13) (row-single ls r t (r .fields) 14)
 
   read-single : (ls : List Name) (t : Token) → Single (tokenRead s ls t)
   unfolding tokenRead

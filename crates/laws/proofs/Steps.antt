@@ -16,8 +16,9 @@ use Rattle.rules.specs.Statements.{Stmt, Target}
 use Rattle.rules.specs.Statements as S
 use Rattle.rules.specs.Tables.{look, insert, newer, natOrder, nameOrder}
 use Rattle.rules.specs.Objects.{Lab, outer, defined, Name}
-use Rattle.rules.specs.Passes.{Symbol, Cursor, Pass1State, pass1State, withCursor, withSymbols, withRelocs, wordLen, addLabel, addLabels, labelled, relocated, filled, closed, directed, advanced, passOne}
-use Rattle.rules.proofs.Following.{gave}
+use Rattle.rules.specs.Passes.{Symbol, Cursor, Pass1State, pass1State, withCursor, withSymbols, withRelocs, wordLen, addLabel, addLabels, labelled, relocated, filled, closed, directed, advanced, stepOne, passOne}
+use Rattle.rules.proofs.Gave.{gave}
+use Rattle.rules.proofs.Following.{passOne-step}
 use Rattle.rules.proofs.Bools.{never}
 
 -- a cursor whose counter is n further
@@ -278,19 +279,19 @@ pub record Step (s : Stmt) (ss : List Stmt) (o f : Pass1State) : Type 0 where
   pub rest : passOne ss next ≡ ok f
 
 pub step : (s : Stmt) (ss : List Stmt) (o f : Pass1State) → passOne (s ∷ ss) o ≡ ok f → Step s ss o f
-unfolding passOne
+unfolding stepOne
 step s ss o f e =
-    let u = gave (labelled (s .labels) (s .place) o) _ f e in
-    let v = gave (directed (s .op) s (u .given′)) _ f (u .then′) in
-    let w = gave (advanced (wordLen (s .op) s) (s .place) (v .given′)) _ f (v .then′) in
+    let w = gave (stepOne s o) (passOne ss) f (sym (passOne-step s ss o) ∙ e) in
+    let u = gave (labelled (s .labels) (s .place) o) _ (w .given′) (w .first) in
+    let v = gave (directed (s .op) s (u .given′)) _ (w .given′) (u .then′) in
     record {
       named = u .given′;
       told = v .given′;
       next = w .given′;
       labels = u .first;
       directs = v .first;
-      advances = w .first;
-      does = does (s .op) s o (u .given′) (v .given′) (w .given′) (labels-same (s .labels) (s .place) o (u .given′) (u .first)) (v .first) (advanced-goes (wordLen (s .op) s) (s .place) (v .given′) (w .given′) (w .first));
+      advances = v .then′;
+      does = does (s .op) s o (u .given′) (v .given′) (w .given′) (labels-same (s .labels) (s .place) o (u .given′) (u .first)) (v .first) (advanced-goes (wordLen (s .op) s) (s .place) (v .given′) (w .given′) (v .then′));
       rest = w .then′;
     }
 

@@ -13,7 +13,7 @@ use Rattle.rules.specs.Tokens.{Token, ascii, tokens, lexed}
 use Rattle.rules.specs.Statements.{Stmt, statements}
 use Rattle.rules.specs.Objects.{Object, object, flat, Good}
 use Rattle.rules.specs.Passes.{Pass1State, pass1Start, passOne, ObjBlock, Pass2State, pass2Start, passTwo, assemble}
-use Rattle.rules.proofs.Following.{gave}
+use Rattle.rules.proofs.Gave.{gave}
 use Rattle.rules.proofs.Bools.{never}
 use Rattle.laws.proofs.Alongside.{total, along-start}
 use Rattle.laws.proofs.Known.{Low, kept-start}

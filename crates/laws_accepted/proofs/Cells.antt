@@ -16,7 +16,7 @@ use Rattle.rules.specs.Statements as S
 use Rattle.rules.specs.Tables.{Table, look, natOrder, nameOrder}
 use Rattle.rules.specs.Objects.{Cell, unset, word, Lab, outer, defined, addressOf, Name, cellsFrom}
 use Rattle.rules.specs.Passes.{Symbol, Pass1State, pass1Start, passOne, address, offsetTo, wordsOf, ObjBlock, objBlock, Pass2State, pass2State, pass2Start, place, emit, finish, written, passTwo}
-use Rattle.rules.proofs.Following.{gave}
+use Rattle.rules.proofs.Gave.{gave}
 use Rattle.rules.proofs.Tables.{none-some, look-here}
 use Rattle.rules.proofs.Runs.{orElse, look-append, left-some, run-in}
 use Rattle.rules.proofs.Bools.{never}

@@ -15,7 +15,7 @@ use Rattle.rules.specs.Statements as S
 use Rattle.rules.specs.Tables.{Table, Tri, less, same, more, look, Sorted, insert, newer, natOrder, nameOrder}
 use Rattle.rules.specs.Objects.{Lab, outer, defined, Name}
 use Rattle.rules.specs.Passes.{Symbol, Cursor, Pass1State, pass1State, withCursor, withSymbols, withRelocs, wordLen, addLabel, addLabels, labelled, relocated, filled, closed, directed}
-use Rattle.rules.proofs.Following.{gave}
+use Rattle.rules.proofs.Gave.{gave}
 use Rattle.rules.proofs.Tables.{lt-ne, look-insert-there}
 use Rattle.rules.proofs.Bools.{never}
 use Rattle.laws.proofs.Steps.{Same, labels-same, Step}

@@ -14,7 +14,7 @@ use Rattle.rules.specs.Tokens.{escape, ascii}
 use Rattle.rules.specs.Words.{field}
 use Rattle.rules.specs.Statements.{Name, Target, Stmt, Read, nameAt, pastLines, pastLabel, labelsFrom, labelsAt, nextStatement, statementsFrom, statementsAt, statements}
 use Rattle.rules.specs.Objects.{goodName}
-use Rattle.rules.proofs.Following.{gave}
+use Rattle.rules.proofs.Gave.{gave}
 use Rattle.rules.proofs.Tables.{none-some}
 use Rattle.rules.proofs.Bools.{never}
 use Rattle.base_text.specs.Runs.{from}

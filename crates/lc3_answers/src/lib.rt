@@ -1,4 +1,8 @@
 // The answers of the calls from other languages, as nine numbers: a number, two spans and four counts.
+use base_casts::long;
+use base_casts::long8;
+use base_casts::long16;
+use base_casts::long32;
 use isa::AsmInstr;
 use isa::ImmOrReg;
 use isa::disassembly::Line;
@@ -48,30 +52,6 @@ pub fn put_answer(out: &mut [u64; 9], r: Reply)
     ];
 }
 
-fn wide(x: usize) -> u64
-    ensures { λ r. ⌜ r ≡ x ⌝ }
-{
-    x as u64
-}
-
-fn wide8(x: u8) -> u64
-    ensures { λ r. ⌜ r ≡ x ⌝ }
-{
-    x as u64
-}
-
-fn wide16(x: u16) -> u64
-    ensures { λ r. ⌜ r ≡ x ⌝ }
-{
-    x as u64
-}
-
-fn wide32(x: u32) -> u64
-    ensures { λ r. ⌜ r ≡ x ⌝ }
-{
-    x as u64
-}
-
 // Acceptance with these counts.
 fn accepted(first: u64, second: u64, third: u64, fourth: u64) -> Reply
     ensures { λ r. ⌜ r ≡ reply (counted first second third fourth) ⌝ }
@@ -95,8 +75,8 @@ fn refused(number: u64, start: usize, end: usize) -> Reply
 {
     Reply {
         number,
-        start: wide(start),
-        end: wide(end),
+        start: long(start),
+        end: long(end),
         start2: 0,
         end2: 0,
         first: 0,
@@ -121,15 +101,15 @@ pub fn told_answer(
     ensures { λ r. ⌜ r ≡ reply (answered number (span start end) (span start2 end2) (four first second third fourth)) ⌝ }
 {
     Reply {
-        number: wide16(number),
-        start: wide(start),
-        end: wide(end),
-        start2: wide(start2),
-        end2: wide(end2),
-        first: wide(first),
-        second: wide(second),
-        third: wide(third),
-        fourth: wide(fourth),
+        number: long16(number),
+        start: long(start),
+        end: long(end),
+        start2: long(start2),
+        end2: long(end2),
+        first: long(first),
+        second: long(second),
+        third: long(third),
+        fourth: long(fourth),
     }
 }
 
@@ -139,8 +119,8 @@ fn told_token(sort: u64, value: u64, start: usize, end: usize) -> Reply
 {
     Reply {
         number: 0,
-        start: wide(start),
-        end: wide(end),
+        start: long(start),
+        end: long(end),
         start2: 0,
         end2: 0,
         first: sort,
@@ -154,7 +134,7 @@ fn told_ident(ident: Ident, start: usize, end: usize) -> Reply
     ensures { λ r. ⌜ r ≡ reply (tokenTold (flatIdent ident start end)) ⌝ }
 {
     match ident {
-        Ident::Reserved(code) => told_token(5, wide8(code), start, end),
+        Ident::Reserved(code) => told_token(5, long8(code), start, end),
         Ident::Label => told_token(3, 0, start, end),
     }
 }
@@ -163,9 +143,9 @@ fn told_kind(token: Token, start: usize, end: usize) -> Reply
     ensures { λ r. ⌜ r ≡ reply (tokenTold (flatToken token start end)) ⌝ }
 {
     match token {
-        Token::Unsigned(n) => told_token(0, wide16(n), start, end),
-        Token::Signed(n) => told_token(1, wide16(n), start, end),
-        Token::Reg(n) => told_token(2, wide8(n), start, end),
+        Token::Unsigned(n) => told_token(0, long16(n), start, end),
+        Token::Signed(n) => told_token(1, long16(n), start, end),
+        Token::Reg(n) => told_token(2, long8(n), start, end),
         Token::Ident(ident) => told_ident(ident, start, end),
         Token::String => told_token(4, 0, start, end),
         Token::Directive => told_token(6, 0, start, end),
@@ -182,7 +162,7 @@ pub fn told_next(next: Next) -> Reply
     match next {
         Next::Took { token, start, end } => told_kind(token, start, end),
         Next::End(at) => told_token(10, 0, at, at),
-        Next::Refused { number, start, end } => refused(wide16(number), start, end),
+        Next::Refused { number, start, end } => refused(long16(number), start, end),
     }
 }
 
@@ -192,7 +172,7 @@ pub fn told_statements(statements: Statements) -> Reply
 {
     match statements {
         Statements::Accepted => accepted(0, 0, 0, 0),
-        Statements::Refused { number, start, end } => refused(wide16(number), start, end),
+        Statements::Refused { number, start, end } => refused(long16(number), start, end),
     }
 }
 
@@ -201,8 +181,8 @@ pub fn told_listed(listed: Listed) -> Reply
     ensures { λ r. ⌜ r ≡ reply (listedTold listed) ⌝ }
 {
     match listed {
-        Listed::Bytes(n) => accepted(wide(n), 0, 0, 0),
-        Listed::Refused(number) => refused(wide16(number), 0, 0),
+        Listed::Bytes(n) => accepted(long(n), 0, 0, 0),
+        Listed::Refused(number) => refused(long16(number), 0, 0),
     }
 }
 
@@ -211,7 +191,7 @@ pub fn told_said(s: Said) -> Reply
     ensures { λ r. ⌜ r ≡ reply (saidTold (said s)) ⌝ }
 {
     match s {
-        Said::Defined(address) => accepted(1, 0, wide32(address), 0),
+        Said::Defined(address) => accepted(1, 0, long32(address), 0),
         Said::External => accepted(1, 1, 0, 0),
         Said::Nothing => accepted(0, 0, 0, 0),
         Said::ShortBuffer => refused(42, 0, 0),
@@ -225,7 +205,7 @@ fn told_row(labels: &[u32], k: usize) -> Reply
     ensures { λ r. ⌜ r ≡ reply (counted 1 k (getD (now (labels .entry)) (k * 4 + 2) 0) (getD (now (labels .entry)) (k * 4 + 3) 0)) ⌝ }
 {
     let i = k * 4;
-    accepted(1, wide(k), wide32(labels[i + 2]), wide32(labels[i + 3]))
+    accepted(1, long(k), long32(labels[i + 2]), long32(labels[i + 3]))
 }
 
 // The answer of looking up an address.
@@ -246,8 +226,8 @@ fn told_operand(operand: ImmOrReg) -> u64
     ensures { λ r. ⌜ r ≡ operandTold (operandOf operand) ⌝ }
 {
     match operand {
-        ImmOrReg::Imm(d) => 65536 + wide16(d),
-        ImmOrReg::Reg(r) => wide16(r),
+        ImmOrReg::Imm(d) => 65536 + long16(d),
+        ImmOrReg::Reg(r) => long16(r),
     }
 }
 
@@ -255,13 +235,13 @@ fn told_operand(operand: ImmOrReg) -> u64
 fn shown(code: u64, a: u16, b: u16, c: u16) -> Reply
     ensures { λ r. ⌜ r ≡ reply (counted code a b c) ⌝ }
 {
-    accepted(code, wide16(a), wide16(b), wide16(c))
+    accepted(code, long16(a), long16(b), long16(c))
 }
 
 fn shown_last(code: u64, a: u16, b: u16, c: ImmOrReg) -> Reply
     ensures { λ r. ⌜ r ≡ reply (counted code a b (operandTold (operandOf c))) ⌝ }
 {
-    accepted(code, wide16(a), wide16(b), told_operand(c))
+    accepted(code, long16(a), long16(b), told_operand(c))
 }
 
 fn told_instr(instr: AsmInstr) -> Reply

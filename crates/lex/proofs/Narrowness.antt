@@ -13,6 +13,7 @@ use Rattle.rules.specs.Words.{Row, instructions}
 use Rattle.rules.specs.Tokens.{plus, minus, Kind, number, register, mark, word, directive, text, Found, token, blank, bad, Match, match, Form, while, wordy, value, digits, read, dec, decNeg, hex, hexNeg, reg, numberAfter, wrongAfter, wordAt, directiveAfter, afterHash, afterMinus, afterX, afterR, Quoted, open′, closed, quoted, line, afterQuote, tokenAt, nextToken}
 use Rattle.rules.specs.Tokens as tokens
 use Rattle.rules.proofs.Bools.{either}
+use Rattle.rules.proofs.Instructions.{instructions-count}
 use Rattle.rules.proofs.Shown.{Tells}
 use Rattle.rules.proofs.Next.{next-induction}
 use Rattle.lex_reserved.specs.Ident.{placeFrom, identOf}
@@ -148,10 +149,6 @@ code-small k w (r ∷ rs) a e l =
     (record { known = omega arith; small = λ x. omega arith })
     (code-small (k + 1) w rs a e (omega arith))
 
-count : length instructions ≡ 32
-unfolding instructions
-count = refl
-
 module _ (s : List ℕ) where
   abbrev Kept : ℕ → Outcome tokens.Token → Type 0
   Kept i o = Narrow (flatNext (coded o))
@@ -164,7 +161,7 @@ module _ (s : List ℕ) where
   kept-token (mark c) a e n l m (inl p) = rw p (record { known = omega arith; small = λ x. omega arith })
   kept-token (mark c) a e n l m (inr (inl p)) = rw p (record { known = omega arith; small = λ x. omega arith })
   kept-token (mark c) a e n l m (inr (inr p)) = rw p (record { known = omega arith; small = λ x. omega arith })
-  kept-token (word w) a e n l m t = code-small 0 w instructions a e (omega (arith, count))
+  kept-token (word w) a e n l m t = code-small 0 w instructions a e (omega (arith, instructions-count))
   kept-token (directive w) a e n l m t = record { known = omega arith; small = λ x. omega arith }
   kept-token (text w) a e n l m t = record { known = omega arith; small = λ x. omega arith }
 

@@ -6,7 +6,7 @@ use mathlib.Core.List.{List, [], _∷_, map}
 use mathlib.Core.Option.{Option, none, some}
 use native.Mathlib.Nat.{sub-zero}
 use native.Mathlib.Omega.{arith}
-use lib.ListN.{length, take, drop, getD, length-drop}
+use lib.ListN.{length, take, drop, getD, length-drop, length-map}
 use lib.Seq.{length-take-le}
 use Rattle.rules.specs.Base.{if_then_else_, ok, span, same}
 use Rattle.rules.specs.Tokens.{word, upper, tokenIn, nextToken}
@@ -14,6 +14,7 @@ use Rattle.rules.specs.Words.{Row, find, instructions}
 use Rattle.rules.specs.Statements.{isMark}
 use Rattle.rules.proofs.Ahead.{Ends, token-ends}
 use Rattle.rules.proofs.Bools.{never}
+use Rattle.rules.proofs.Instructions.{instructions-count}
 use Rattle.lex_reserved.specs.Ident.{placeFrom, identOf}
 use Rattle.lex_reserved.specs.declared.Ident.{Ident}
 use Rattle.lex_reserved.specs.declared.Ident.the-variants.{Reserved, Label}
@@ -23,7 +24,7 @@ use Rattle.lex_token.specs.declared.Token.the-variants as tok
 use Rattle.lex_token.specs.declared.Next.{Next}
 use Rattle.lex_token.specs.declared.Next.the-variants.{Took, End, Refused}
 use Rattle.lex_token.specs.declared.Lexeme.{Lexeme}
-use Rattle.lex_token.specs.Flat.{lexeme, flatIdent, flatNext}
+use Rattle.lex_token.specs.Flat.{faultSort, lexeme, flatIdent, flatNext}
 use Rattle.lex_token.proofs.MeantCoded.{meant-coded}
 use Rattle.lex.specs.Sorts.{nameOf, kindBy, noRow, Stands}
 
@@ -67,18 +68,10 @@ module _ (s : List ℕ) (i a e : ℕ) where
   unfolding meant kindAt isMark part
   sized d m =
       let t : Ends (length s) i (tokenIn (word (map upper (take (e - a) (drop a s)))) (span a e)) = token-ends s i _ (sym m) in
-      length-map (take (e - a) (drop a s)) ∙ length-take-le (e - a) (drop a s) (omega (arith, t .most refl, length-drop a s))
-    where
-      length-map : (l : List ℕ) → length (map upper l) ≡ length l
-      length-map [] = refl
-      length-map (x ∷ l) = ap suc (length-map l)
-
-count : length instructions ≡ 32
-unfolding instructions
-count = refl
+      length-map (take (e - a) (drop a s)) upper ∙ length-take-le (e - a) (drop a s) (omega (arith, t .most refl, length-drop a s))
 
 module _ (s : List ℕ) (i : ℕ) where
-  plain : (k v a e : ℕ) → k < 11 → (k ≡ 3 → ⊥) → (k ≡ 5 → ⊥) → ok (tokenIn (kindBy s k (lexeme k v a e)) (span a e)) ≡ nextToken s i → Stands s i (lexeme k v a e)
+  plain : (k v a e : ℕ) → k < faultSort → (k ≡ 3 → ⊥) → (k ≡ 5 → ⊥) → ok (tokenIn (kindBy s k (lexeme k v a e)) (span a e)) ≡ nextToken s i → Stands s i (lexeme k v a e)
   plain k v a e l p q h = record {
     token = λ x. sym h;
     bad = λ x. absurd (omega arith);
@@ -104,7 +97,7 @@ module _ (s : List ℕ) (i : ℕ) where
       }
     where
       few : k < 0 + length instructions → k < 32
-      few h = omega (arith, h, count)
+      few h = omega (arith, h, instructions-count)
   worded Label a e t m = record {
     token = λ x. sym m;
     bad = λ x. absurd (omega arith);

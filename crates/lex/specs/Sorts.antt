@@ -1,5 +1,6 @@
 -- What a token as four numbers means in the rules. Assumes nothing.
 use Prim.Native.Nat.{ℕ, zero, suc, _-_, _≤_, _<_}
+use mathlib.Core.Bool.{false}
 use mathlib.Core.List.{List, [], map}
 use mathlib.Core.Option.{none, some}
 use mathlib.Core.Path.{_≡_}
@@ -10,6 +11,7 @@ use Rattle.rules.specs.Words.{Row, instr, find, instructions}
 use Rattle.lex_token.specs.Meant.{part, kindAt}
 use Rattle.lex_token.specs.declared.Token.the-variants.{Directive, String}
 use Rattle.lex_token.specs.declared.Lexeme.{Lexeme}
+use Rattle.lex_token.specs.Flat.{faultSort}
 
 -- the word or name at a lexeme's place, in upper case
 unfoldable pub nameOf : List ℕ → Lexeme → List ℕ
@@ -31,14 +33,21 @@ kindBy s (suc (suc (suc (suc (suc (suc (suc (suc (suc (suc k)))))))))) t = mark 
 
 -- no row
 abbrev pub noRow : Row
-noRow = record { key = []; op = instr; base = 0; fields = [] }
+noRow = record { key = []; op = instr; base = 0; fields = []; optional = false }
+
+-- whether a lexeme is a token or a refusal
+abbrev pub NoFault : Lexeme → Type 0
+NoFault t = t .sort < faultSort
+
+abbrev pub Fault : Lexeme → Type 0
+Fault t = faultSort ≤ t .sort
 
 -- the token that the lexeme stands for is the next one from i on
 pub record Stands (s : List ℕ) (i : ℕ) (t : Lexeme) : Type 0 where
-  pub token : t .sort < 11 → nextToken s i ≡ ok (tokenIn (kindBy s (t .sort) t) (span (t .start) (t .end)))
-  pub bad : 11 ≤ t .sort → nextToken s i ≡ refuse (t .value) (span (t .start) (t .end))
+  pub token : NoFault t → nextToken s i ≡ ok (tokenIn (kindBy s (t .sort) t) (span (t .start) (t .end)))
+  pub bad : Fault t → nextToken s i ≡ refuse (t .value) (span (t .start) (t .end))
   pub label : t .sort ≡ 3 → find (nameOf s t) instructions ≡ none
   pub size : t .sort ≡ 3 → length (nameOf s t) ≡ t .end - t .start
   pub reserved : t .sort ≡ 5 → find (nameOf s t) instructions ≡ some (getD instructions (t .value) noRow)
   pub code : t .sort ≡ 5 → t .value < 32
-  pub known : t .sort ≤ 11
+  pub known : t .sort ≤ faultSort

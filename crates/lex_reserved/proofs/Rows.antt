@@ -1,13 +1,12 @@
 -- A row of the table, byte by byte, and the rows one by one. Assumes nothing.
-use Prim.Native.Nat.{ℕ, zero, suc, _+_, _-_, _<_, _≤_}
+use Prim.Native.Nat.{ℕ, suc, _+_, _-_, _<_, _≤_}
 use mathlib.Core.Path.{_≡_, refl, sym, _∙_, ap}
 use mathlib.Core.Bool.{Bool, true, false, _&&_}
 use mathlib.Core.List.{List, [], _∷_, map}
-use native.Mathlib.Nat.{not-suc-le-zero, le-of-suc-le-suc}
 use native.Mathlib.Omega.{arith}
 use borrow.Author.Tests.{eqb-true, leb-true, eq-eqb, ne-eqb}
 use lib.Dec.{eqb, leb}
-use lib.ListN.{length, getD}
+use lib.ListN.{length, getD, length-map}
 use lib.Seq.{length-take-le, getD-take}
 use Rattle.rules.specs.Base.{if_then_else_, same}
 use Rattle.rules.specs.Tokens.{upper}
@@ -16,13 +15,8 @@ use Rattle.base_text.proofs.Rest.{from-step, from-end}
 use Rattle.lex_reserved.specs.Table.{words, row, nameOf, findIn}
 use Rattle.lex_reserved.specs.declared.Ident.{Ident}
 use Rattle.lex_reserved.specs.declared.Ident.the-variants.{Reserved, Label}
+use Rattle.rules.proofs.Instructions.{maps-at}
 use Rattle.rules.proofs.Bools.{and-left, and-right}
-
--- what a computed test says of each entry of a list
-pub maps-at : {A B : Type 0} (f g : A → B) (d : A) (xs : List A) → map f xs ≡ map g xs → (i : ℕ) → i < length xs → f (getD xs i d) ≡ g (getD xs i d)
-maps-at f g d [] e i h = absurd (not-suc-le-zero h)
-maps-at f g d (x ∷ xs) e zero h = cc
-maps-at f g d (x ∷ xs) e (suc i) h = maps-at f g d xs (cc) i (le-of-suc-le-suc h)
 
 -- the table's form: a row has seven cells, and its word at most five bytes
 abbrev formed : List ℕ → Bool
@@ -52,10 +46,6 @@ same-lengths (x ∷ xs) (y ∷ ys) n = both (eqb x y) (same-lengths xs ys (λ e.
     both true e = e
     both false e = refl
 
-pub length-map : (f : ℕ → ℕ) (xs : List ℕ) → length (map f xs) ≡ length xs
-length-map f [] = refl
-length-map f (x ∷ xs) = ap suc (length-map f xs)
-
 -- the word of row i against s from byte j on
 abbrev pub sameFrom : ℕ → List ℕ → ℕ → Bool
 sameFrom i s j = same (map upper (from s j)) (from (nameOf (row i)) j)
@@ -79,7 +69,7 @@ module _ (i : ℕ) (s : List ℕ) {j n : ℕ} (h : i < 32) (m : n ≡ getD (row 
       sym (rw (from-end (nameOf (row i)) j (rw (name-long i h) b), from-end s j (omega arith))) ∙ g
 
 pub row-unlike : (i : ℕ) (s : List ℕ) {n : ℕ} → i < 32 → n ≡ getD (row i) 5 0 → (n ≡ length s → ⊥) → false ≡ same (map upper s) (nameOf (row i))
-row-unlike i s h m l = sym (same-lengths (map upper s) (nameOf (row i)) (λ e. l (m ∙ sym (name-long i h) ∙ sym e ∙ length-map upper s)))
+row-unlike i s h m l = sym (same-lengths (map upper s) (nameOf (row i)) (λ e. l (m ∙ sym (name-long i h) ∙ sym e ∙ length-map s upper)))
 
 -- the rows from i up to last, one on
 one-less : (i last : ℕ) → i < last → last - i ≡ suc (last - (i + 1))

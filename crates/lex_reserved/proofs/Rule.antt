@@ -7,7 +7,7 @@ use mathlib.Core.Logic.{_⊎_, inl, inr, ⊎-elim}
 use native.Mathlib.Omega.{arith}
 use borrow.Author.Tests.{eqb-true, leb-true, ltb-false, lt-ltb, le-ltb}
 use lib.Dec.{eqb, leb, ltb}
-use lib.ListN.{length, getD}
+use lib.ListN.{length, getD, length-map}
 use Rattle.rules.specs.Base.{if_then_else_, same}
 use Rattle.rules.specs.Tokens.{upper}
 use Rattle.rules.proofs.Run.{trueRun}
@@ -16,7 +16,7 @@ use Rattle.lex_reserved.specs.Table.{words, starts, row, firstRow, nameO
 use Rattle.lex_reserved.specs.Ident.{placeFrom, identOf}
 use Rattle.lex_reserved.specs.declared.Ident.{Ident}
 use Rattle.lex_reserved.specs.declared.Ident.the-variants.{Reserved, Label}
-use Rattle.lex_reserved.proofs.Rows.{maps-at, length-map}
+use Rattle.rules.proofs.Instructions.{maps-at}
 use Rattle.rules.proofs.Bools.{and-left, and-right}
 
 same-is : (x y : List ℕ) → same x y ≡ true → x ≡ y
@@ -119,21 +119,21 @@ first-upper (x ∷ s) h = refl
 module _ (s : List ℕ) where
   pub ident-short : length s < 2 → Label ≡ identOf (map upper s)
   unfolding searched if_then_else_
-  ident-short h = sym (rw (length-map upper s, lt-ltb _ _ h)) ∙ searched-right (map upper s)
+  ident-short h = sym (rw (length-map s upper, lt-ltb _ _ h)) ∙ searched-right (map upper s)
 
   pub ident-long : 2 ≤ length s → 5 < length s → Label ≡ identOf (map upper s)
   unfolding searched if_then_else_
-  ident-long l h = sym (rw (length-map upper s, le-ltb _ _ l, lt-ltb _ _ h)) ∙ searched-right (map upper s)
+  ident-long l h = sym (rw (length-map s upper, le-ltb _ _ l, lt-ltb _ _ h)) ∙ searched-right (map upper s)
 
   module _ {c : ℕ} (e : c ≡ upper (getD s 0 0)) (l : 2 ≤ length s) (h : length s ≤ 5) where
     pub ident-low : c < 65 → Label ≡ identOf (map upper s)
     unfolding searched if_then_else_
-    ident-low k = sym (rw (length-map upper s, le-ltb _ _ l, le-ltb _ _ h, first-upper s l, ← e, lt-ltb _ _ k)) ∙ searched-right (map upper s)
+    ident-low k = sym (rw (length-map s upper, le-ltb _ _ l, le-ltb _ _ h, first-upper s l, ← e, lt-ltb _ _ k)) ∙ searched-right (map upper s)
 
     pub ident-high : 65 ≤ c → 90 < c → Label ≡ identOf (map upper s)
     unfolding searched if_then_else_
-    ident-high k m = sym (rw (length-map upper s, le-ltb _ _ l, le-ltb _ _ h, first-upper s l, ← e, le-ltb _ _ k, lt-ltb _ _ m)) ∙ searched-right (map upper s)
+    ident-high k m = sym (rw (length-map s upper, le-ltb _ _ l, le-ltb _ _ h, first-upper s l, ← e, le-ltb _ _ k, lt-ltb _ _ m)) ∙ searched-right (map upper s)
 
     pub ident-found : {r : Ident} {a b : ℕ} → 65 ≤ c → c ≤ 90 → a ≡ firstRow c → b ≡ firstRow (c + 1) → r ≡ findIn (b - a) a (map upper s) → r ≡ identOf (map upper s)
     unfolding searched if_then_else_
-    ident-found k m p q f = f ∙ rw (p, q) (sym (rw (length-map upper s, le-ltb _ _ l, le-ltb _ _ h, first-upper s l, ← e, le-ltb _ _ k, le-ltb _ _ m))) ∙ searched-right (map upper s)
+    ident-found k m p q f = f ∙ rw (p, q) (sym (rw (length-map s upper, le-ltb _ _ l, le-ltb _ _ h, first-upper s l, ← e, le-ltb _ _ k, le-ltb _ _ m))) ∙ searched-right (map upper s)

@@ -1,4 +1,5 @@
 // The thirty-two reserved words in one constant table, and the search in it.
+use base_casts::wide8;
 ghost use mathlib.Core.Path.{_≡_};
 ghost use mathlib.Core.List.{map};
 ghost use Prim.Native.Nat.{_-_, _≤_, _<_};
@@ -106,19 +107,13 @@ fn cell(table: &[[u8; ROW_CELLS]; ROWS], i: usize, j: usize) -> u8
     table[i][j]
 }
 
-fn wide(b: u8) -> usize
-    ensures { λ r. ⌜ r ≡ b ⌝ }
-{
-    b as usize
-}
-
 // The row where the words of a letter begin, or those of the letter after Z would.
 fn first_row(letter: u8) -> usize
     requires { ⌜ (65 ≤ letter) × (letter ≤ 91) ⌝ }
     ensures { λ r. ⌜ r ≡ firstRow letter ⌝ }
 {
-    let k = wide(letter - b'A');
-    wide(STARTS[k])
+    let k = wide8(letter - b'A');
+    wide8(STARTS[k])
 }
 
 // Whether s is in upper case the word of row i.
@@ -126,7 +121,7 @@ fn row_is(table: &[[u8; ROW_CELLS]; ROWS], i: usize, s: &[u8]) -> bool
     requires { ⌜ (now table ≡ words) × (i < 32) ⌝ }
     ensures { λ r. ⌜ r ≡ same (map upper (now (s .entry))) (nameOf (row i)) ⌝ }
 {
-    let n = wide(cell(table, i, LENGTH));
+    let n = wide8(cell(table, i, LENGTH));
     if n == s.len() {
         let mut j = 0;
         while j < n {

@@ -30,7 +30,7 @@ use Rattle.lex_source.specs.declared.Lexed.the-variants.{Clean, Fault}
 one : {A : Type 0} {x r r′ : A} → r ≡ x → r′ ≡ x → r ≡ r′
 one p q = p ∙ sym q
 
--- `text`
+-- `base_text`
 module _ (b : ℕ) where
   pub is-digit-one : {r r′ : Bool} → r ≡ digit b → r′ ≡ digit b → r ≡ r′
   is-digit-one = one
@@ -70,11 +70,11 @@ module _ (a b : List ℕ) where
   pub compare-bytes-one : {r r′ : Order} → r ≡ ordered a b → r′ ≡ ordered a b → r ≡ r′
   compare-bytes-one = one
 
--- `reserved`
+-- `lex_reserved`
 pub ident-of-one : (s : List ℕ) {r r′ : Ident} → r ≡ identOf (map upper s) → r′ ≡ identOf (map upper s) → r ≡ r′
 ident-of-one s = one
 
--- `literals`
+-- `lex_literals`
 module _ (s : List ℕ) (at : ℕ) where
   pub read-number-one : (base bound : ℕ) {r r′ : Reading} → r ≡ numberFrom base bound at at 0 (from s at) → r′ ≡ numberFrom base bound at at 0 (from s at) → r ≡ r′
   read-number-one base bound = one
@@ -85,7 +85,7 @@ module _ (s : List ℕ) (at : ℕ) where
   pub string-char-one : {r r′ : StringChar} → r ≡ charAt at (from s at) → r′ ≡ charAt at (from s at) → r ≡ r′
   string-char-one = one
 
--- `token`: each of its functions tells a match at a place
+-- `lex_token`: each of its functions tells a match at a place
 pub told-one : (s : List ℕ) (start : ℕ) (m : Match) {r r′ : Next} → r ≡ Coded.told s start m → r′ ≡ Coded.told s start m → r ≡ r′
 told-one s start m = one
 

@@ -12,6 +12,10 @@ use Rattle.lex_token.specs.declared.Lexeme.{Lexeme}
 abbrev pub lexeme : (sort value start end : ℕ) → Lexeme
 lexeme k v a e = record { sort = k; value = v; start = a; end = e }
 
+-- the sort of a refusal, behind those of the tokens
+abbrev pub faultSort : ℕ
+faultSort = 11
+
 abbrev pub flatIdent : Ident → (start end : ℕ) → Lexeme
 flatIdent (Reserved k) a e = lexeme 5 k a e
 flatIdent Label a e = lexeme 3 0 a e
@@ -30,7 +34,7 @@ flatToken NewLine a e = lexeme 9 0 a e
 abbrev pub flatNext : Next → Lexeme
 flatNext (Took t a e) = flatToken t a e
 flatNext (End i) = lexeme 10 0 i i
-flatNext (Refused n a e) = lexeme 11 n a e
+flatNext (Refused n a e) = lexeme faultSort n a e
 
 -- and back, by the sort
 abbrev pub nextBy : ℕ → Lexeme → Next
@@ -52,5 +56,5 @@ nextOf t = nextBy (t .sort) t
 
 -- a sort that there is, and but for a number's size a value of one byte
 pub record Narrow (t : Lexeme) : Type 0 where
-  pub known : t .sort ≤ 11
+  pub known : t .sort ≤ faultSort
   pub small : 2 ≤ t .sort → t .value ≤ 255

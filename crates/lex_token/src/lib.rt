@@ -6,6 +6,7 @@ ghost use Rattle.rules.specs.Tokens.{numberAfter, dec, decNeg, hex, hexNeg, reg
 ghost use Rattle.base_text.specs.Runs.{from};
 ghost use Rattle.lex_token.specs.Coded.{codedAs, signedKind, formOf, told};
 ghost use Rattle.lex_token.specs.Flat.{lexeme, flatNext, nextOf, Narrow};
+use base_casts::byte;
 use base_refusals::DOES_NOT_FIT_I16;
 use base_refusals::DOES_NOT_FIT_U16;
 use base_refusals::INVALID_DEC_EMPTY;
@@ -114,13 +115,6 @@ pub struct Form {
     pub over: u16,
     pub none: u16,
     pub signed: bool,
-}
-
-fn byte(x: u16) -> u8
-    requires { ⌜ x ≤ 255 ⌝ }
-    ensures { λ r. ⌜ r ≡ x ⌝ }
-{
-    x as u8
 }
 
 // The token at a lexeme's place.

@@ -1,8 +1,25 @@
 // An assembled source printed on standard output: the object's listing, or REFUSED and the number.
 use asm::Answer;
+use base_capacities::BLOCKS;
+use base_capacities::LABELS;
+use base_capacities::NAME_BYTES;
+use base_capacities::RELOCATIONS;
 use libc::STDOUT_FILENO;
 use list::Listed;
+use list_lines::BLOCK_LINE_BYTES;
+use list_lines::WORD_LINE_BYTES;
+use list_sections::LABEL_LINE_REST;
+use list_sections::RELOCATION_LINE_REST;
 use object::Counts;
+
+// How many words the program's object may have.
+const WORDS: usize = 32768;
+
+// The longest listing of such an object.
+const LISTING_BYTES: usize = BLOCKS * BLOCK_LINE_BYTES
+    + WORDS * WORD_LINE_BYTES
+    + LABELS * (NAME_BYTES + LABEL_LINE_REST)
+    + RELOCATIONS * (NAME_BYTES + RELOCATION_LINE_REST);
 
 // A refusal's line.
 pub fn print_refused(number: u64) {
@@ -43,7 +60,7 @@ fn print_object(
     relocations: &[u32],
     names: &[u8],
 ) {
-    let mut text = [0u8; 482304];
+    let mut text = [0u8; LISTING_BYTES];
     let listed = list::list(
         c,
         blocks,
@@ -57,14 +74,14 @@ fn print_object(
     print_listed(listed, &text);
 }
 
-// A source in the program's 32,768 words.
+// A source in the program's words.
 pub fn print_source(src: &[u8]) {
-    let mut blocks = [0u16; 128];
-    let mut words = [0u16; 32768];
-    let mut marks = [0u8; 32768];
-    let mut labels = [0u32; 4096];
-    let mut relocations = [0u32; 2048];
-    let mut names = [0u8; 65536];
+    let mut blocks = [0u16; object::BLOCK_ROOM];
+    let mut words = [0u16; WORDS];
+    let mut marks = [0u8; WORDS];
+    let mut labels = [0u32; object::LABEL_ROOM];
+    let mut relocations = [0u32; object::RELOCATION_ROOM];
+    let mut names = [0u8; object::NAME_ROOM];
     let answer = asm::assemble(
         src,
         &mut blocks,

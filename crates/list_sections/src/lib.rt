@@ -16,6 +16,9 @@ use base_capacities::LABEL_CELLS;
 use base_capacities::LABEL_FLAG;
 use base_capacities::RELOCATION_CELLS;
 use base_capacities::RELOCATION_LABEL;
+use base_casts::wide;
+use base_casts::wide16;
+use base_casts::word16;
 
 // How long what stands before the name is, in the lines of a defined label, an external and a relocation.
 const LABEL_FRONT_BYTES: usize = 11;
@@ -25,11 +28,11 @@ const EXTERNAL_FRONT_BYTES: usize = 7;
 const RELOCATION_FRONT_BYTES: usize = 9;
 
 // The same with the line feed: what a line has besides its name.
-const LABEL_LINE_REST: usize = LABEL_FRONT_BYTES + 1;
+pub const LABEL_LINE_REST: usize = LABEL_FRONT_BYTES + 1;
 
 const EXTERNAL_LINE_REST: usize = EXTERNAL_FRONT_BYTES + 1;
 
-const RELOCATION_LINE_REST: usize = RELOCATION_FRONT_BYTES + 1;
+pub const RELOCATION_LINE_REST: usize = RELOCATION_FRONT_BYTES + 1;
 
 // A block's lines.
 fn put_block(out: &mut [u8], at: usize, start: u16, words: &[u16], marks: &[u8]) -> usize
@@ -72,25 +75,6 @@ fn relocation_front(address: u16) -> [u8; RELOCATION_FRONT_BYTES]
     [b'R', b'E', b'L', b' ', a[0], a[1], a[2], a[3], b' ']
 }
 
-fn narrow(x: u32) -> u16
-    requires { ⌜ x < 65536 ⌝ }
-    ensures { λ r. ⌜ r ≡ x ⌝ }
-{
-    x as u16
-}
-
-fn wide(x: u32) -> usize
-    ensures { λ r. ⌜ r ≡ x ⌝ }
-{
-    x as usize
-}
-
-fn wide16(x: u16) -> usize
-    ensures { λ r. ⌜ r ≡ x ⌝ }
-{
-    x as usize
-}
-
 // The line of label row k.
 fn put_label(out: &mut [u8], at: usize, labels: &[u32], names: &[u8], k: usize) -> usize
     requires { ⌜ k * 4 + 4 ≤ length (now labels) ⌝ }
@@ -101,7 +85,7 @@ fn put_label(out: &mut [u8], at: usize, labels: &[u32], names: &[u8], k: usize) 
     let i = k * LABEL_CELLS;
     let name = object::label_name(labels, names, k);
     if labels[i + LABEL_FLAG] == DEFINED {
-        let front = label_front(narrow(labels[i]));
+        let front = label_front(word16(labels[i]));
         return list_lines::put_line(out, at, &front, name);
     }
     list_lines::put_line(out, at, b"EXTERN ", name)
@@ -139,7 +123,7 @@ fn put_relocation(
     let i = k * RELOCATION_CELLS;
     let row = wide(relocations[i + RELOCATION_LABEL]);
     let name = object::label_name(labels, names, row);
-    let front = relocation_front(narrow(relocations[i]));
+    let front = relocation_front(word16(relocations[i]));
     list_lines::put_line(out, at, &front, name)
 }
 

@@ -2,13 +2,12 @@
 use mathlib.Core.Path.{_≡_}
 use mathlib.Core.List.{List}
 use Prim.Native.Nat.{ℕ, _+_, _-_, _/_, _≤_, _<_}
-use native.Mathlib.Nat.{not-suc-le-zero}
-use native.Mathlib.Decide.{decLt}
 use native.Mathlib.Omega.{arith}
 use Rattle.rules.specs.Tables.{Before, before-trans, nameOrder}
 use Rattle.rules.specs.Objects.{Name}
 use Rattle.rules.proofs.Rows.{up-lt}
 use Rattle.rules.proofs.Bools.{never}
+use Rattle.rules.proofs.Halving.{Halved, Sides, halved-start, halved-up, halved-down}
 use Rattle.base_text.specs.Names.{ordered}
 use Rattle.base_text.specs.declared.Order.{Order}
 use Rattle.base_text.specs.declared.Order.the-variants.{Less, Same, Greater}
@@ -23,34 +22,36 @@ pub record Halving (ls ns : List ℕ) (n : ℕ) (x : Name) (lo hi : ℕ) : Type 
   pub below : (k : ℕ) → k < lo → Before (upperName ls ns k) x
   pub above : (k : ℕ) → hi ≤ k → k < n → Before x (upperName ls ns k)
 
+-- the law of halving, for names
+module _ (ls ns : List ℕ) (n : ℕ) (x : Name) where
+  abbrev Less′ : ℕ → Type 0
+  Less′ k = Before (upperName ls ns k) x
+
+  abbrev More′ : ℕ → Type 0
+  More′ k = Before x (upperName ls ns k)
+
+  halved : {lo hi : ℕ} → Halving ls ns n x lo hi → Halved Less′ More′ n lo hi
+  halved t = record { order = t .order; within = t .within; below = t .below; above = t .above }
+
+  halving : {lo hi : ℕ} → Halved Less′ More′ n lo hi → Halving ls ns n x lo hi
+  halving t = record { order = t .order; within = t .within; below = t .below; above = t .above }
+
+  sides : Rising ls ns n → Sides Less′ More′ n
+  sides v = record {
+    down = λ k m l h b. before-trans (upperName ls ns k) (upperName ls ns m) x (up-lt nameOrder n (upperRow ls ns) (v .up) k m l h) b;
+    up = λ k m l h b. before-trans x (upperName ls ns k) (upperName ls ns m) b (up-lt nameOrder n (upperRow ls ns) (v .up) k m l h);
+  }
+
 pub slot-none : {ls ns : List ℕ} {n : ℕ} {x : Name} → Halving ls ns n x 0 n
-slot-none = record { order = omega arith; within = omega arith; below = λ k h. absurd (not-suc-le-zero h); above = λ k h l. absurd (omega arith) }
+slot-none {ls} {ns} {n} {x} = halving ls ns n x (halved-start (Less′ ls ns n x) (More′ ls ns n x))
 
 module _ {ls ns : List ℕ} {n lo hi : ℕ} {x : Name} {r : Order} (v : Rising ls ns n) (t : Halving ls ns n x lo hi) (l : lo < hi)
     (e : r ≡ ordered (upperName ls ns (lo + (hi - lo) / 2)) x) where
   pub slot-up : r ≡ Less → Halving ls ns n x (lo + (hi - lo) / 2 + 1) hi
-  slot-up q = record { order = omega arith; within = t .within; below = go; above = t .above }
-    where
-      b : Before (upperName ls ns (lo + (hi - lo) / 2)) x
-      b = is-less (upperName ls ns (lo + (hi - lo) / 2)) x e q
-
-      go : (k : ℕ) → k < lo + (hi - lo) / 2 + 1 → Before (upperName ls ns k) x
-      go k h = elim (decLt k (lo + (hi - lo) / 2)) [
-        | yes p ↦ before-trans (upperName ls ns k) (upperName ls ns (lo + (hi - lo) / 2)) x (up-lt nameOrder n (upperRow ls ns) (v .up) k (lo + (hi - lo) / 2) p (omega (arith, t .within))) b
-        | no p ↦ (let w : k ≡ lo + (hi - lo) / 2 = omega arith in rw w b)
-      ]
+  slot-up q = halving ls ns n x (halved-up _ _ (sides ls ns n x v) (halved ls ns n x t) l (is-less (upperName ls ns (lo + (hi - lo) / 2)) x e q))
 
   pub slot-down : r ≡ Greater → Halving ls ns n x lo (lo + (hi - lo) / 2)
-  slot-down q = record { order = omega arith; within = omega (arith, t .within); below = t .below; above = go }
-    where
-      b : Before x (upperName ls ns (lo + (hi - lo) / 2))
-      b = is-greater (upperName ls ns (lo + (hi - lo) / 2)) x e q
-
-      go : (k : ℕ) → lo + (hi - lo) / 2 ≤ k → k < n → Before x (upperName ls ns k)
-      go k h m = elim (decLt (lo + (hi - lo) / 2) k) [
-        | yes p ↦ before-trans x (upperName ls ns (lo + (hi - lo) / 2)) (upperName ls ns k) b (up-lt nameOrder n (upperRow ls ns) (v .up) (lo + (hi - lo) / 2) k p m)
-        | no p ↦ (let w : k ≡ lo + (hi - lo) / 2 = omega arith in rw w b)
-      ]
+  slot-down q = halving ls ns n x (halved-down _ _ (sides ls ns n x v) (halved ls ns n x t) l (is-greater (upperName ls ns (lo + (hi - lo) / 2)) x e q))
 
   pub slot-hit : r ≡ Same → Slotted ls ns n x (Taken (lo + (hi - lo) / 2))
   slot-hit q = record {

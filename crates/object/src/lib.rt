@@ -20,16 +20,17 @@ use base_capacities::NAME_START;
 use base_capacities::RELOCATION_CELLS;
 use base_capacities::RELOCATIONS;
 use base_capacities::WORDS;
+use base_casts::wide;
 use base_text::Order;
 
 // The least lengths of the tables and of the name buffer: room for full capacities.
-const BLOCK_ROOM: usize = BLOCKS * BLOCK_CELLS;
+pub const BLOCK_ROOM: usize = BLOCKS * BLOCK_CELLS;
 
-const LABEL_ROOM: usize = LABELS * LABEL_CELLS;
+pub const LABEL_ROOM: usize = LABELS * LABEL_CELLS;
 
-const RELOCATION_ROOM: usize = RELOCATIONS * RELOCATION_CELLS;
+pub const RELOCATION_ROOM: usize = RELOCATIONS * RELOCATION_CELLS;
 
-const NAME_ROOM: usize = LABELS * NAME_BYTES;
+pub const NAME_ROOM: usize = LABELS * NAME_BYTES;
 
 // Counts of blocks, words, labels and relocations. What stands in the six lent buffers up to these counts is the object.
 pub struct Counts {
@@ -82,12 +83,6 @@ pub fn lent_words(words: &[u16], marks: &[u8]) -> usize
     ensures { λ r. ⌜ r ≡ lentWords (now (words .entry)) (now (marks .entry)) ⌝ }
 {
     lesser(lesser(words.len(), marks.len()), WORDS)
-}
-
-fn wide(x: u32) -> usize
-    ensures { λ r. ⌜ r ≡ x ⌝ }
-{
-    x as usize
 }
 
 // The name of label row k, as a part of the lent name bytes; empty where the row or its name is not there.

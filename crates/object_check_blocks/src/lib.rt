@@ -1,5 +1,4 @@
 // What 43 demands of an object's blocks and words, and where the word of an address stands among them.
-ghost use mathlib.Core.Path.{_≡_};
 ghost use Prim.Native.Nat.{_<_};
 ghost use lib.ListN.{length};
 ghost use Rattle.rules.specs.Buffers.{BlocksOk, WordsOk, ZeroAt};
@@ -10,6 +9,7 @@ use base_capacities::BLOCK_LENGTH;
 use base_capacities::BLOCKS;
 use base_capacities::SET;
 use base_capacities::UNSET;
+use base_casts::wide16;
 
 // The first address of the devices, as wide as a sum of a start and a length.
 const IO_START: usize = base_capacities::IO_START as usize;
@@ -18,12 +18,6 @@ const IO_START: usize = base_capacities::IO_START as usize;
 pub enum Place {
     At(usize),
     Nowhere,
-}
-
-fn wide(x: u16) -> usize
-    ensures { λ r. ⌜ (r ≡ x) × (r < 65536) ⌝ }
-{
-    x as usize
 }
 
 // The n block rows rise without overlap, are not empty, end at most at xFE00 and have w words together.
@@ -41,8 +35,8 @@ pub fn check_blocks(blocks: &[u16], n: usize, w: usize) -> bool
     let mut k = 0;
     while k < n {
         let i = k * BLOCK_CELLS;
-        let start = wide(blocks[i]);
-        let size = wide(blocks[i + BLOCK_LENGTH]);
+        let start = wide16(blocks[i]);
+        let size = wide16(blocks[i + BLOCK_LENGTH]);
         if start < end {
             return false;
         }
@@ -96,8 +90,8 @@ pub fn place_of(blocks: &[u16], n: usize, w: usize, x: usize) -> Place
     let mut k = 0;
     while k < n {
         let i = k * BLOCK_CELLS;
-        let start = wide(blocks[i]);
-        let size = wide(blocks[i + BLOCK_LENGTH]);
+        let start = wide16(blocks[i]);
+        let size = wide16(blocks[i + BLOCK_LENGTH]);
         if x < start {
             return Place::Nowhere;
         }

@@ -1,5 +1,4 @@
 // What 43 demands of an object's labels.
-ghost use mathlib.Core.Path.{_≡_};
 ghost use Prim.Native.Nat.{_+_, _*_, _≤_, _<_};
 ghost use lib.ListN.{length};
 ghost use Rattle.rules.specs.Buffers.{LabelRow, LabelsOk};
@@ -13,16 +12,11 @@ use base_capacities::LABEL_FLAG;
 use base_capacities::LABELS;
 use base_capacities::NAME_LENGTH;
 use base_capacities::NAME_START;
+use base_casts::wide;
 use base_text::Order;
 
 // The last address that there is.
 const LAST_ADDRESS: u32 = ADDRESSES - 1;
-
-fn wide(x: u32) -> usize
-    ensures { λ r. ⌜ (r ≡ x) × (r < 4294967296) ⌝ }
-{
-    x as usize
-}
 
 // An address of two bytes, and a flag that is 0, or 1 beside the address 0.
 fn check_flag(address: u32, flag: u32) -> bool

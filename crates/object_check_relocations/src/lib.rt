@@ -1,5 +1,4 @@
 // What 43 demands of an object's relocations.
-ghost use mathlib.Core.Path.{_≡_};
 ghost use Prim.Native.Nat.{_+_, _*_, _≤_};
 ghost use lib.ListN.{length};
 ghost use Rattle.rules.specs.Buffers.{RelocRow, RelocsOk};
@@ -11,12 +10,7 @@ use base_capacities::LABEL_FLAG;
 use base_capacities::RELOCATION_CELLS;
 use base_capacities::RELOCATION_LABEL;
 use base_capacities::RELOCATIONS;
-
-fn wide(x: u32) -> usize
-    ensures { λ r. ⌜ r ≡ x ⌝ }
-{
-    x as usize
-}
+use base_casts::wide;
 
 // Row k names an external, and stands at a set word 0.
 fn check_relocation(

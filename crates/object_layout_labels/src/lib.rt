@@ -12,13 +12,7 @@ use base_capacities::LABEL_CELLS;
 use base_capacities::LABEL_FLAG;
 use base_capacities::NAME_LENGTH;
 use base_capacities::NAME_START;
-
-fn narrow(x: usize) -> u32
-    requires { ⌜ x ≤ 65536 ⌝ }
-    ensures { λ r. ⌜ r ≡ x ⌝ }
-{
-    x as u32
-}
+use base_casts::narrow;
 
 // All of src in upper case, from index `at` of dst.
 fn put_upper(dst: &mut [u8], at: usize, src: &[u8])

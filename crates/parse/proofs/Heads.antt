@@ -16,7 +16,8 @@ use Rattle.rules.specs.Words.{instructions, directives}
 use Rattle.rules.specs.Statements.{Name, asWord, asDirective, need, pastLines, pastLabels, labelsAt, instrRead, tokenRead, nextStatement}
 use Rattle.lex_token.specs.Meant.{part, kindAt}
 use Rattle.lex_token.specs.declared.Lexeme.{Lexeme}
-use Rattle.lex.specs.Sorts.{nameOf, kindBy, noRow, Stands}
+use Rattle.lex_token.specs.Flat.{faultSort}
+use Rattle.lex.specs.Sorts.{nameOf, kindBy, noRow, Stands, NoFault}
 use Rattle.lex.proofs.Marks.{end-sort}
 use Rattle.parse_labels.specs.declared.Walk.{Walk}
 use Rattle.parse_labels.specs.Walk.{Walked}
@@ -113,7 +114,7 @@ module _ (s : List ℕ) (i : ℕ) (w : Walk) (r : NextStatement) (k : Walked s i
   unfolding nextStatement
   at-head = refl
 
-  at-token : t .sort < 11 → nextStatement s i ≡ tokenRead s (labelsAt s i) (tokenIn (kindBy s (t .sort) t) (span (t .start) (t .end)))
+  at-token : NoFault t → nextStatement s i ≡ tokenRead s (labelsAt s i) (tokenIn (kindBy s (t .sort) t) (span (t .start) (t .end)))
   at-token l = at-head ∙ rw (h .token l)
 
   abbrev Answer : Type 0
@@ -139,7 +140,7 @@ module _ (s : List ℕ) (i : ℕ) (w : Walk) (r : NextStatement) (k : Walked s i
       f ∙ ap codedStatement (sym u)
 
   -- any other token: its kind is no directive and no word
-  module _ (l : t .sort < 11) (a : t .sort ≡ 5 → ⊥) (b : t .sort ≡ 6 → ⊥) (c : t .sort ≡ 3 → ⊥) where
+  module _ (l : NoFault t) (a : t .sort ≡ 5 → ⊥) (b : t .sort ≡ 6 → ⊥) (c : t .sort ≡ 3 → ⊥) where
     other-token : nextStatement s i ≡ (if eqb (t .sort) 10 && eqb (length (labelsAt s i)) 0 then ok none else refuse 13 (span (t .start) (t .end)))
     unfolding tokenRead
     other-token =
@@ -171,16 +172,16 @@ module _ (s : List ℕ) (i : ℕ) (w : Walk) (r : NextStatement) (k : Walked s i
 
   pub head-unfit : (t .sort ≡ 5 → ⊥) → (t .sort ≡ 6 → ⊥) → (t .sort ≡ 3 → ⊥) → (t .sort ≡ 10 → ⊥) → r ≡ unfitAt t → Answer
   unfolding codedStatement unfitAt if_then_else_
-  head-unfit a b c d f = go (decLt (t .sort) 11)
+  head-unfit a b c d f = go (decLt (t .sort) faultSort)
     where
-      go : Dec (t .sort < 11) → Answer
+      go : Dec (NoFault t) → Answer
       go (yes l) =
           let u : nextStatement s i ≡ refuse 13 (span (t .start) (t .end)) = other-token l a b c ∙ rw (ne-eqb (t .sort) 10 d) in
-          (rw (ne-eqb (t .sort) 11 (λ (z : t .sort ≡ 11). omega arith)) at f) ∙ ap codedStatement (sym u)
+          (rw (ne-eqb (t .sort) faultSort (λ (z : t .sort ≡ faultSort). omega arith)) at f) ∙ ap codedStatement (sym u)
       go (no l) =
-          let z : t .sort ≡ 11 = omega (arith, h .known) in
+          let z : t .sort ≡ faultSort = omega (arith, h .known) in
           let u : nextStatement s i ≡ refuse (t .value) (span (t .start) (t .end)) = at-head ∙ rw (h .bad (omega arith)) in
-          (rw (eq-eqb (t .sort) 11 z) at f) ∙ ap codedStatement (sym u)
+          (rw (eq-eqb (t .sort) faultSort z) at f) ∙ ap codedStatement (sym u)
 
 pub head-none : (s : List ℕ) (i : ℕ) (w : Walk) → Walked s i w → w .token .sort ≡ 10 → w .labelled ≡ false → End ≡ codedStatement (nextStatement s i)
 head-none s i w k e b = none-there s i w End k e b

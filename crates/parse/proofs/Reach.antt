@@ -1,19 +1,18 @@
 -- In an accepted statement the label operand's field is known by what the statement does. Assumes nothing.
 use Prim.Native.Nat.{ℕ, _+_, _*_}
 use mathlib.Core.Path.{_≡_, refl, ap}
-use mathlib.Core.Bool.{Bool, true, false, _&&_}
 use mathlib.Core.List.{List, [], _∷_}
 use mathlib.Core.Logic.{_⊎_, inl, inr}
 use mathlib.Core.Option.{Option, none, some}
 use native.Mathlib.Omega.{arith}
-use lib.Dec.{eqb}
-use lib.ListN.{length}
-use Rattle.rules.specs.Base.{if_then_else_, same, Outcome, ok, refused, refuse, _>>=_, Span}
+use Rattle.rules.specs.Base.{Outcome, ok, refused, _>>=_, Span}
 use Rattle.rules.specs.Tokens.{Num, Token, nextToken}
-use Rattle.rules.specs.Words.{Range, signed, unsigned, anyWord, Field, reg, regOrImm, num, near, name, string, Op, instr, orig, fill, blkw, stringz, end, external, Row, instructions, directives, find}
-use Rattle.rules.specs.Statements.{Name, Target, Piece, bits, target, chars, Given, bare, add, asRegister, asNumber, asLabel, asText, asWord, asDirective, isMark, fit, named, need, operand, ends, tokenIs, pastLines, pastLabels, labelsAt, operandAt, commaAt, moreFrom, operandsFrom, lineEnd, Read, read, stmt, rowRead, instrRead, tokenRead, nextStatement}
-use Rattle.rules.proofs.Following.{gave}
+use Rattle.rules.specs.Words.{Range, signed, unsigned, anyWord, Field, reg, regOrImm, num, near, name, string, Op, instr, orig, fill, blkw, stringz, end, external, Row, instructions, directives}
+use Rattle.rules.specs.Statements.{Name, Target, Piece, bits, target, chars, Given, bare, add, asRegister, asNumber, asLabel, asText, fit, named, need, operand, pastLines, pastLabels, labelsAt, operandAt, commaAt, moreFrom, operandsFrom, Read, stmt, nextStatement}
+use Rattle.rules.proofs.Gave.{gave}
 use Rattle.rules.proofs.Bools.{never}
+use Rattle.rules.proofs.Instructions.{All, found}
+use Rattle.rules.proofs.Inverted.{Headed, whole, alone, directed, Rowed, inverted}
 use Rattle.parse_operands.specs.Lines.{reachOf}
 use Rattle.parse.specs.Reach.{LabelField, HasField}
 
@@ -103,88 +102,32 @@ module _ (P : Range → Type 0) where
 abbrev Known : Read → Type 0
 Known x = HasField (LabelField (x .stmt .op)) (x .stmt .target)
 
-module _ (s : List ℕ) (ls : List Name) where
-  row-known : (r : Row) (t : Token) (fs : List Field) (other : ℕ) (x : Read) → Each (LabelField (r .op)) fs → rowRead s ls r t fs other ≡ ok (some x) → Known x
-  unfolding rowRead
-  row-known r t fs other x h e =
-      let u = gave (operandsFrom s fs other (bare (r .base) (t .place .stop))) _ (some x) e in
-      let w = gave (lineEnd s (u .given′ .stop)) _ (some x) (u .then′) in
-      let q : read (stmt ls (r .op) (u .given′) (t .place .start)) (w .given′) ≡ x = cc (w .then′) in
-      rw (← q) (operands-hold (LabelField (r .op)) s fs other (bare (r .base) (t .place .stop)) (u .given′) h tt (u .first))
+-- the label operands of each row
+abbrev Labels : Row → Type 0
+Labels r = Each (LabelField (r .op)) (r .fields)
 
-  instr-known : (r : Row) (t : Token) (x : Read) → Each (LabelField (r .op)) (r .fields) → instrRead s ls r t ≡ ok (some x) → Known x
-  unfolding instrRead if_then_else_
-  instr-known r t x h e = by-nop (eqb (r .base) 0) e
-    where
-      by-end : (b : Bool) → rowRead s ls r t (if b then [] else r .fields) 13 ≡ ok (some x) → Known x
-      by-end true q = row-known r t [] 13 x tt q
-      by-end false q = row-known r t (r .fields) 13 x h q
-
-      by-nop : (b : Bool) → (if b then rowRead s ls r t (if tokenIs ends s (t .place .stop) then [] else r .fields) 13 else rowRead s ls r t (r .fields) 14) ≡ ok (some x) → Known x
-      by-nop true q = by-end (tokenIs ends s (t .place .stop)) q
-      by-nop false q = row-known r t (r .fields) 14 x h q
-
--- the computed test: each row's fields
-abbrev Rows : List Row → Type 0
-Rows [] = Unit {0}
-Rows (r ∷ rs) = Each (LabelField (r .op)) (r .fields) × Rows rs
-
-instruction-rows : Rows instructions
+instruction-rows : All Labels instructions
 unfolding instructions
 instruction-rows = ((tt, (tt, (tt, tt))), ((tt, (tt, (tt, tt))), ((tt, (tt, tt)), ((inl refl, tt), ((inl refl, tt), ((inl refl, tt), ((inl refl, tt), ((inl refl, tt), ((inl refl, tt), ((inl refl, tt), ((inl refl, tt), ((tt, tt), ((inr refl, tt), ((tt, tt), ((tt, (inl refl, tt)), ((tt, (inl refl, tt)), ((tt, (tt, (tt, tt))), ((tt, (inl refl, tt)), ((tt, (inl refl, tt)), ((tt, (inl refl, tt)), ((tt, (tt, (tt, tt))), ((tt, tt), ((inl refl, tt), (tt, (tt, (tt, (tt, (tt, (tt, (tt, (tt, (tt, tt))))))))))))))))))))))))))))))))
 
-directive-rows : Rows directives
+directive-rows : All Labels directives
 unfolding directives
 directive-rows = ((tt, tt), ((refl, tt), ((tt, tt), ((tt, tt), (tt, ((refl, tt), tt))))))
 
-found-row : (w : List ℕ) (rs : List Row) (r : Row) → Rows rs → find w rs ≡ some r → Each (LabelField (r .op)) (r .fields)
-unfolding find
-found-row w [] r h e = never cc
-found-row w (q ∷ rs) r h e = go (same w (q .key)) e (found-row w rs r (h .1))
-  where
-    go : (b : Bool) → _≡_ {A = Option Row} (elim b [ true ↦ some q | false ↦ find w rs ]) (some r) → (find w rs ≡ some r → Each (LabelField (r .op)) (r .fields)) → Each (LabelField (r .op)) (r .fields)
-    go true x ih = let y : q ≡ r = cc in rw (← y) (h .0)
-    go false x ih = ih x
+module _ (s : List ℕ) (ls : List Name) (t : Token) where
+  head-known : (r : Row) (fs : List Field) → Headed s ls t r fs → Each (LabelField (r .op)) fs
+  head-known r fs (whole w a f q) = rw q (found Labels w instructions r instruction-rows f)
+  head-known r fs (alone w a f q) = rw q tt
+  head-known r fs (directed d a f q) = rw q (found Labels d directives r directive-rows f)
 
-module _ (s : List ℕ) (ls : List Name) (t : Token) (x : Read) where
-  token-known : tokenRead s ls t ≡ ok (some x) → Known x
-  unfolding tokenRead need if_then_else_
-  token-known e = by-dot (asDirective (t .kind)) e
-    where
-      by-row : (d : List ℕ) (o : Option Row) → find d directives ≡ o → need o 13 (t .place) (λ r. rowRead s ls r t (r .fields) 14) ≡ ok (some x) → Known x
-      by-row d none q h = never cc
-      by-row d (some r) q h = row-known s ls r t (r .fields) 14 x (found-row d directives r directive-rows q) h
-
-      by-find : (w : List ℕ) (o : Option Row) → find w instructions ≡ o → _≡_ {A = Outcome (Option Read)} (elim o [ some r ↦ instrRead s ls r t | none ↦ refuse 16 (t .place) ]) (ok (some x)) → Known x
-      by-find w none q h = never cc
-      by-find w (some r) q h = instr-known s ls r t x (found-row w instructions r instruction-rows q) h
-
-      by-end : (b : Bool) → (if b then ok none else refuse 13 (t .place)) ≡ ok (some x) → Known x
-      by-end true h = never cc
-      by-end false h = never cc
-
-      by-word : (o : Option (List ℕ)) → _≡_ {A = Outcome (Option Read)} (elim o [
-        | some w ↦ elim (find w instructions) [ some r ↦ instrRead s ls r t | none ↦ refuse 16 (t .place) ]
-        | none ↦ if isMark 0 (t .kind) && eqb (length ls) 0 then ok none else refuse 13 (t .place)
-      ]) (ok (some x)) → Known x
-      by-word none h = by-end (isMark 0 (t .kind) && eqb (length ls) 0) h
-      by-word (some w) h = by-find w (find w instructions) refl h
-
-      by-dot : (o : Option (List ℕ)) → _≡_ {A = Outcome (Option Read)} (elim o [
-        | some d ↦ need (find d directives) 13 (t .place) (λ r. rowRead s ls r t (r .fields) 14)
-        | none ↦ elim (asWord (t .kind)) [
-          | some w ↦ elim (find w instructions) [ some r ↦ instrRead s ls r t | none ↦ refuse 16 (t .place) ]
-          | none ↦ if isMark 0 (t .kind) && eqb (length ls) 0 then ok none else refuse 13 (t .place)
-        ]
-      ]) (ok (some x)) → Known x
-      by-dot none h = by-word (asWord (t .kind)) h
-      by-dot (some d) h = by-row d (find d directives) refl h
+  token-known : (x : Read) → Rowed s ls t x → Known x
+  token-known x r = rw (r .is) (operands-hold (LabelField (r .row .op)) s (r .fields) (r .other) (bare (r .row .base) (t .place .stop)) (r .given′) (head-known (r .row) (r .fields) (r .headed)) tt (r .taken))
 
 pub statement-known : (s : List ℕ) (i : ℕ) (x : Read) → nextStatement s i ≡ ok (some x) → HasField (LabelField (x .stmt .op)) (x .stmt .target)
 unfolding nextStatement
 statement-known s i x e =
     let u = gave (nextToken s (pastLines s (pastLabels s i))) _ (some x) e in
-    token-known s (labelsAt s i) (u .given′) x (u .then′)
+    token-known s (labelsAt s i) (u .given′) x (inverted s (labelsAt s i) (u .given′) (some x) (u .then′))
 
 -- by the number of values: 512 is an offset9, 2048 an offset11
 module _ (s : List ℕ) (i : ℕ) (x : Read) (t : Target) (e : nextStatement s i ≡ ok (some x)) (l : x .stmt .target ≡ some t) where

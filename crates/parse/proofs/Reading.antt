@@ -15,9 +15,11 @@ use Rattle.rules.specs.Words.{end, instructions}
 use Rattle.rules.specs.Words as words
 use Rattle.rules.specs.Statements.{Name, ends, tokenIs, bare, operandsFrom, lineEnd, read, stmt, rowRead, instrRead}
 use Rattle.rules.specs.Statements as rules
+use Rattle.rules.proofs.Instructions.{optional-zero}
 use Rattle.rules.proofs.Ahead.{is-token, is-refused}
 use Rattle.lex_token.specs.declared.Lexeme.{Lexeme}
-use Rattle.lex.specs.Sorts.{kindBy, noRow, Stands}
+use Rattle.lex_token.specs.Flat.{faultSort}
+use Rattle.lex.specs.Sorts.{kindBy, noRow, Stands, NoFault}
 use Rattle.lex.proofs.Marks.{line-sort, end-sort}
 use Rattle.parse_field.specs.declared.Given.{Given}
 use Rattle.parse_field.specs.declared.Step.{Step}
@@ -35,21 +37,21 @@ use Rattle.parse.specs.declared.NextStatement.the-variants as next
 use Rattle.parse.specs.Coded.{codedOp, codedRead, codedStatement, unfitAt, made, ended, finished, after, rowStep, bareRow, nopStep}
 
 module _ (t : Lexeme) (r : NextStatement) where
-  pub unfit-own : t .sort ≡ 11 → r ≡ Refused (t .value) (t .start) (t .end) → r ≡ unfitAt t
+  pub unfit-own : t .sort ≡ faultSort → r ≡ Refused (t .value) (t .start) (t .end) → r ≡ unfitAt t
   unfolding unfitAt if_then_else_
   unfit-own e h = rw (eq-eqb _ _ e) h
 
-  pub unfit-other : (t .sort ≡ 11 → ⊥) → r ≡ Refused 13 (t .start) (t .end) → r ≡ unfitAt t
+  pub unfit-other : (t .sort ≡ faultSort → ⊥) → r ≡ Refused 13 (t .start) (t .end) → r ≡ unfitAt t
   unfolding unfitAt if_then_else_
   unfit-other e h = rw (ne-eqb _ _ e) h
 
 -- THE LINE'S END
 module _ (s : List ℕ) (i : ℕ) (t : Lexeme) (h : Stands s i t) where
-  ends-sort : t .sort < 11 → ends (kindBy s (t .sort) t) ≡ (eqb (t .sort) 9 || eqb (t .sort) 10)
+  ends-sort : NoFault t → ends (kindBy s (t .sort) t) ≡ (eqb (t .sort) 9 || eqb (t .sort) 10)
   unfolding ends
   ends-sort l = rw (line-sort s t (t .sort) l, end-sort s t (t .sort) l)
 
-  end-token : t .sort < 11 → lineEnd s i ≡ (require (eqb (t .sort) 9 || eqb (t .sort) 10) 13 (span (t .start) (t .end)) >>= λ x. ok (t .end))
+  end-token : NoFault t → lineEnd s i ≡ (require (eqb (t .sort) 9 || eqb (t .sort) 10) 13 (span (t .start) (t .end)) >>= λ x. ok (t .end))
   unfolding lineEnd
   end-token l = rw (h .token l, lineEnd, ends-sort l)
 
@@ -60,9 +62,9 @@ module _ (s : List ℕ) (i : ℕ) (t : Lexeme) (h : Stands s i t) where
   ends-end n e = is-token ends s i _ (h .token (omega arith)) ∙ (ends-sort (omega arith) ∙ rw (ne-eqb (t .sort) 9 n, eq-eqb (t .sort) 10 e))
 
   pub ends-no : (t .sort ≡ 9 → ⊥) → (t .sort ≡ 10 → ⊥) → tokenIs ends s i ≡ false
-  ends-no n m = go (decLt (t .sort) 11)
+  ends-no n m = go (decLt (t .sort) faultSort)
     where
-      go : Dec (t .sort < 11) → tokenIs ends s i ≡ false
+      go : Dec (NoFault t) → tokenIs ends s i ≡ false
       go (yes l) = is-token ends s i _ (h .token l) ∙ (ends-sort l ∙ rw (ne-eqb (t .sort) 9 n, ne-eqb (t .sort) 10 m))
       go (no l) = is-refused ends s i _ (h .bad (omega arith))
 
@@ -81,16 +83,16 @@ module _ (s : List ℕ) (b : Bool) (o : Op) (a : ℕ) (g : Given) (t : Lexeme) (
 
   pub finish-no : (t .sort ≡ 9 → ⊥) → (t .sort ≡ 10 → ⊥) → r ≡ unfitAt t → r ≡ finished s b o a g
   unfolding finished ended unfitAt if_then_else_ lineEnd
-  finish-no n m q = go (decLt (t .sort) 11)
+  finish-no n m q = go (decLt (t .sort) faultSort)
     where
-      go : Dec (t .sort < 11) → r ≡ finished s b o a g
+      go : Dec (NoFault t) → r ≡ finished s b o a g
       go (yes x) =
           let l : lineEnd s (g .stop) ≡ refuse 13 (span (t .start) (t .end)) = end-token s (g .stop) t h x ∙ rw (ne-eqb (t .sort) 9 n, ne-eqb (t .sort) 10 m) in
-          rw (l, ended) (rw (ne-eqb (t .sort) 11 (λ (z : t .sort ≡ 11). omega arith)) at q)
+          rw (l, ended) (rw (ne-eqb (t .sort) faultSort (λ (z : t .sort ≡ faultSort). omega arith)) at q)
       go (no x) =
-          let z : t .sort ≡ 11 = omega (arith, h .known) in
+          let z : t .sort ≡ faultSort = omega (arith, h .known) in
           let l : lineEnd s (g .stop) ≡ refuse (t .value) (span (t .start) (t .end)) = rw (h .bad (omega arith), lineEnd) in
-          rw (l, ended) (rw (eq-eqb (t .sort) 11 z) at q)
+          rw (l, ended) (rw (eq-eqb (t .sort) faultSort z) at q)
 
 -- A ROW
 module _ (s : List ℕ) (b : Bool) (o : Op) (fs : List words.Field) (other w a e : ℕ) (x : Step) (h : x ≡ lineStep s fs other w e) (r : NextStatement) where
@@ -151,11 +153,11 @@ module _ (s : List ℕ) (b : Bool) (v a e : ℕ) (c : Row) (r : NextStatement) (
   pub instruction-nop : c .base ≡ 0 → r ≡ nopStep s b c a e → (ls : List Name) (k : Kind) → b ≡ not (eqb (length ls) 0) → r ≡ codedStatement (instrRead s ls (getD instructions v noRow) (tokenIn k (span a e)))
   unfolding instrRead if_then_else_ nopStep
   instruction-nop z q ls k y =
-      let w : eqb (getD instructions v noRow .base) 0 ≡ true = eq-eqb (getD instructions v noRow .base) 0 (sym (row-is .base) ∙ z) in
+      let w : getD instructions v noRow .optional ≡ true = optional-zero v noRow l ∙ eq-eqb (getD instructions v noRow .base) 0 (sym (row-is .base) ∙ z) in
       rw w (q ∙ (rw (row-is .fields) (row-coded s ls b y k c (getD instructions v noRow) row-is (if tokenIs ends s e then [] else getD instructions v noRow .fields) 13 a e)))
 
   pub instruction-other : (c .base ≡ 0 → ⊥) → r ≡ rowStep s b (c .op) (fieldsBy (c .count) (c .first) (c .second) (c .third)) 14 (c .base) a e → (ls : List Name) (k : Kind) → b ≡ not (eqb (length ls) 0) → r ≡ codedStatement (instrRead s ls (getD instructions v noRow) (tokenIn k (span a e)))
   unfolding instrRead if_then_else_
   instruction-other z q ls k y =
-      let w : eqb (getD instructions v noRow .base) 0 ≡ false = ne-eqb (getD instructions v noRow .base) 0 (λ (x : getD instructions v noRow .base ≡ 0). z (row-is .base ∙ x)) in
+      let w : getD instructions v noRow .optional ≡ false = optional-zero v noRow l ∙ ne-eqb (getD instructions v noRow .base) 0 (λ (x : getD instructions v noRow .base ≡ 0). z (row-is .base ∙ x)) in
       rw w (q ∙ (rw (row-is .fields) (row-coded s ls b y k c (getD instructions v noRow) row-is (getD instructions v noRow .fields) 14 a e)))

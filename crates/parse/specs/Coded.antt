@@ -12,6 +12,7 @@ use Rattle.rules.specs.Words as words
 use Rattle.rules.specs.Tokens.{Token, lexed}
 use Rattle.rules.specs.Statements.{Name, Stmt, Read, need, ends, tokenIs, lineEnd, rowRead, statements}
 use Rattle.lex_token.specs.declared.Lexeme.{Lexeme}
+use Rattle.lex_token.specs.Flat.{faultSort}
 use Rattle.parse_field.specs.declared.Given.{Given}
 use Rattle.parse_field.specs.declared.Step.{Step}
 use Rattle.parse_field.specs.declared.Step.the-variants as step
@@ -79,7 +80,7 @@ pub record AllRead (s : List ℕ) : Type 0 where
 
 -- a token that cannot stand where it is
 unfoldable pub unfitAt : Lexeme → NextStatement
-unfitAt t = if eqb (t .sort) 11 then Refused (t .value) (t .start) (t .end) else Refused 13 (t .start) (t .end)
+unfitAt t = if eqb (t .sort) faultSort then Refused (t .value) (t .start) (t .end) else Refused 13 (t .start) (t .end)
 
 -- a statement of what is given
 abbrev pub made : (labelled : Bool) → Op → (start : ℕ) → Given → (next : ℕ) → Statement

@@ -14,6 +14,7 @@ use Rattle.rules.specs.Tokens.{plus, minus, tokenIn, number, register, word, te
 use Rattle.rules.specs.Words.{find, instructions}
 use Rattle.rules.specs.Statements.{bits, target, chars, inRange, reduced, named, operand}
 use Rattle.lex_token.specs.declared.Lexeme.{Lexeme}
+use Rattle.lex_token.specs.Flat.{faultSort}
 use Rattle.parse_field.specs.declared.Field.{Field}
 use Rattle.parse_field.specs.declared.Range.{Range}
 use Rattle.parse_field.specs.declared.Given.{Given}
@@ -27,11 +28,11 @@ unfolding addTo
 took-given g n i = refl
 
 module _ (t : Lexeme) (other : ℕ) (r : Step) where
-  pub misplaced-own : t .sort ≡ 11 → r ≡ Refused (t .value) (t .start) (t .end) → r ≡ misplacedAt t other
+  pub misplaced-own : t .sort ≡ faultSort → r ≡ Refused (t .value) (t .start) (t .end) → r ≡ misplacedAt t other
   unfolding misplacedAt if_then_else_
   misplaced-own e h = rw (eq-eqb _ _ e) h
 
-  pub misplaced-other : (t .sort ≡ 11 → ⊥) → r ≡ Refused other (t .start) (t .end) → r ≡ misplacedAt t other
+  pub misplaced-other : (t .sort ≡ faultSort → ⊥) → r ≡ Refused other (t .start) (t .end) → r ≡ misplacedAt t other
   unfolding misplacedAt if_then_else_
   misplaced-other e h = rw (ne-eqb _ _ e) h
 

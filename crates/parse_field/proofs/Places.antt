@@ -14,7 +14,8 @@ use Rattle.rules.specs.Words as words
 use Rattle.rules.specs.Statements.{asNumber, asRegister, asWord, asText, asLabel, need, operand}
 use Rattle.lex_token.specs.Meant.{kindAt}
 use Rattle.lex_token.specs.declared.Lexeme.{Lexeme}
-use Rattle.lex.specs.Sorts.{nameOf, kindBy, noRow, Stands}
+use Rattle.lex_token.specs.Flat.{faultSort}
+use Rattle.lex.specs.Sorts.{nameOf, kindBy, noRow, Stands, NoFault}
 use Rattle.parse_field.specs.declared.Field.{Field}
 use Rattle.parse_field.specs.declared.Given.{Given}
 use Rattle.parse_field.specs.declared.Step.{Step}
@@ -64,7 +65,7 @@ module _ (s : List ℕ) (i : ℕ) (t : Lexeme) (g : Given) (f : Field) (other : 
     abbrev Placed : Type 0
     Placed = Adds g r (operandStep s (fieldOf f) other g i)
 
-    by-kind : (k : Kind) → t .sort < 11 → kindBy s (t .sort) t ≡ k → Adds g r (stepped g (operand (fieldOf f) other (tokenIn k (span (t .start) (t .end)))) (t .end)) → Placed
+    by-kind : (k : Kind) → NoFault t → kindBy s (t .sort) t ≡ k → Adds g r (stepped g (operand (fieldOf f) other (tokenIn k (span (t .start) (t .end)))) (t .end)) → Placed
     by-kind k l e a = rw (at-token k (h .token l ∙ rw e)) a
 
     pub at-register : t .sort ≡ 2 → Adds g r (stepped g (operand (fieldOf f) other (tokenIn (register (t .value)) (span (t .start) (t .end)))) (t .end)) → Placed
@@ -88,16 +89,16 @@ module _ (s : List ℕ) (i : ℕ) (t : Lexeme) (g : Given) (f : Field) (other : 
 
     pub at-other : (t .sort ≡ 2 → ⊥) → 1 < t .sort → (t .sort ≡ 3 → ⊥) → (t .sort ≡ 4 → ⊥) → r ≡ misplacedAt t other → Placed
     unfolding misplacedAt if_then_else_ Below stepped told
-    at-other a b c d e = go (decLt (t .sort) 11)
+    at-other a b c d e = go (decLt (t .sort) faultSort)
       where
         plain : Refused other (t .start) (t .end) ≡ r → operandStep s (fieldOf f) other g i ≡ Refused other (t .start) (t .end) → Placed
         plain q w = rw (← q, w) (record { is = refl; room = tt })
 
-        go : Dec (t .sort < 11) → Placed
+        go : Dec (NoFault t) → Placed
         go (yes l) =
             let k = plain-kind s t (t .sort) (omega arith) (h .reserved) in
             let o : operand (fieldOf f) other (tokenIn (kindBy s (t .sort) t) (span (t .start) (t .end))) ≡ refuse other (span (t .start) (t .end)) = other-token (fieldOf f) other (kindBy s (t .sort) t) (span (t .start) (t .end)) (k .reg) (k .num) (k .label) (k .text) in
-            plain (sym (rw (ne-eqb (t .sort) 11 (λ (z : t .sort ≡ 11). omega arith)) at e)) (at-token _ (h .token l) ∙ rw o)
+            plain (sym (rw (ne-eqb (t .sort) faultSort (λ (z : t .sort ≡ faultSort). omega arith)) at e)) (at-token _ (h .token l) ∙ rw o)
         go (no l) =
-            let z : t .sort ≡ 11 = omega (arith, h .known) in
-            rw (e, eq-eqb (t .sort) 11 z, at-refused (t .value) (h .bad (omega arith))) (record { is = refl; room = tt })
+            let z : t .sort ≡ faultSort = omega (arith, h .known) in
+            rw (e, eq-eqb (t .sort) faultSort z, at-refused (t .value) (h .bad (omega arith))) (record { is = refl; room = tt })

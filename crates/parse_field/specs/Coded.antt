@@ -10,6 +10,7 @@ use Rattle.rules.specs.Words.{reg, regOrImm, num, near, name, string, signed, u
 use Rattle.rules.specs.Words as words
 use Rattle.rules.specs.Statements.{Piece, bits, target, chars, operand}
 use Rattle.lex_token.specs.declared.Lexeme.{Lexeme}
+use Rattle.lex_token.specs.Flat.{faultSort}
 use Rattle.parse_field.specs.declared.Field.{Field}
 use Rattle.parse_field.specs.declared.Field.the-variants.{Dr, Sr, RegOrImm, Offset6, Near9, Near11, Trap, Word, Fill, Name, Text}
 use Rattle.parse_field.specs.declared.Range.{Range}
@@ -152,7 +153,7 @@ numOf k n = if eqb k 1 then minus n else plus n
 
 -- its own refusal, or another
 unfoldable pub misplacedAt : Lexeme → ℕ → Step
-misplacedAt t other = if eqb (t .sort) 11 then Refused (t .value) (t .start) (t .end) else Refused other (t .start) (t .end)
+misplacedAt t other = if eqb (t .sort) faultSort then Refused (t .value) (t .start) (t .end) else Refused other (t .start) (t .end)
 
 -- the word's bits are at most n
 unfoldable pub Below : ℕ → Step → Type 0

@@ -16,7 +16,8 @@ use Rattle.rules.specs.Statements.{Name, isMark, asWord, asLabel, asName, nameA
 use Rattle.rules.proofs.Ahead.{lines-on, lines-done, line-ahead, colon-on, colon-done, name-token, name-refused}
 use Rattle.rules.proofs.Bools.{never}
 use Rattle.lex_token.specs.declared.Lexeme.{Lexeme}
-use Rattle.lex.specs.Sorts.{nameOf, kindBy, Stands}
+use Rattle.lex_token.specs.Flat.{faultSort}
+use Rattle.lex.specs.Sorts.{nameOf, kindBy, Stands, NoFault}
 use Rattle.lex.proofs.Marks.{token-mark, stop-end, line-sort, colon-sort, word-sort}
 use Rattle.parse_labels.specs.declared.Label.{Label}
 use Rattle.parse_labels.specs.declared.Label.the-variants.{At, Nothing}
@@ -111,14 +112,14 @@ module _ (s : List ℕ) (i : ℕ) (t : Lexeme) (h : Stands s i t) where
       let q : nextToken s i ≡ ok (tokenIn (word (nameOf s t)) (span (t .start) (t .end))) = rw e at (h .token (omega arith)) in
       name-token s i _ q ∙ rw (h .reserved e, asName)
 
-  other-none : t .sort < 11 → (t .sort ≡ 3 → ⊥) → (t .sort ≡ 5 → ⊥) → nameAt s i ≡ none
+  other-none : NoFault t → (t .sort ≡ 3 → ⊥) → (t .sort ≡ 5 → ⊥) → nameAt s i ≡ none
   other-none l a b = name-token s i _ (h .token l) ∙ no-label (kindBy s (t .sort) t) (span (t .start) (t .end)) (word-sort s t (t .sort) l ∙ rw (ne-eqb _ _ a, ne-eqb _ _ b))
 
   label-no : (t .sort ≡ 3 → ⊥) → Nothing ≡ labelHere s i
   unfolding labelHere placed
-  label-no n = sym (ap placed (go (decLt (t .sort) 11) (ℕ-discrete (t .sort) 5)))
+  label-no n = sym (ap placed (go (decLt (t .sort) faultSort) (ℕ-discrete (t .sort) 5)))
     where
-      go : Dec (t .sort < 11) → Dec (t .sort ≡ 5) → nameAt s i ≡ none
+      go : Dec (NoFault t) → Dec (t .sort ≡ 5) → nameAt s i ≡ none
       go (yes l) (yes e) = reserved-none e
       go (yes l) (no e) = other-none l n e
       go (no l) d = name-refused s i _ (h .bad (omega arith))

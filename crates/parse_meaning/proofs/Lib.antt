@@ -3,5 +3,5 @@ pub mod Chars
 pub mod Sizes
 pub mod Tokens
 pub mod Taken
-pub mod Accepted
+pub mod Suited
 pub mod Read

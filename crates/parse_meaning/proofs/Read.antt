@@ -9,12 +9,15 @@ use native.Mathlib.Omega.{arith}
 use borrow.Author.Tests.{ne-eqb}
 use lib.Dec.{eqb}
 use lib.ListN.{length}
-use Rattle.rules.specs.Base.{ok, require, _>>=_, Span}
+use Rattle.rules.specs.Base.{ok}
 use Rattle.rules.specs.Tokens.{Token, nextToken}
 use Rattle.rules.specs.Words.{Op, instr, orig, fill, blkw, stringz, end, external}
-use Rattle.rules.specs.Statements.{Name, Target, Given, bare, ends, pastLines, pastLabels, labelsAt, lineEnd, Read, Stmt, stmt, nextStatement}
+use Rattle.rules.specs.Statements.{Name, Target, Given, bare, pastLines, pastLabels, labelsAt, Read, Stmt, stmt, nextStatement}
 use Rattle.rules.proofs.Ahead.{token-ends}
-use Rattle.rules.proofs.Following.{gave, statement-goes}
+use Rattle.rules.proofs.Gave.{gave}
+use Rattle.rules.proofs.Inverted.{Rowed, inverted}
+use Rattle.rules.proofs.Along.{line-along}
+use Rattle.rules.proofs.Following.{statement-goes}
 use Rattle.rules.proofs.Bools.{never}
 use Rattle.parse_labels.specs.Names.{nameBetween}
 use Rattle.parse_operands.specs.Lines.{reachOf}
@@ -26,7 +29,7 @@ use Rattle.parse_labels.proofs.Texts.{Labels}
 use Rattle.parse_meaning.specs.Reading.{meantOp, charsAt, Aimed, Faithful}
 use Rattle.parse_meaning.proofs.Tokens.{token-rises}
 use Rattle.parse_meaning.proofs.Taken.{Taken, Stands, operands-taken, string-taken}
-use Rattle.parse_meaning.proofs.Accepted.{Accepted, token-accepted}
+use Rattle.parse_meaning.proofs.Suited.{Suited, suited}
 
 -- what is shown of the rules' statement by its reading
 pub record Known (s : List ℕ) (ls : List Name) (n : ℕ) (x : Stmt) : Type 0 where
@@ -38,36 +41,26 @@ pub record Known (s : List ℕ) (ls : List Name) (n : ℕ) (x : Stmt) : Type 0 w
   pub within : x .place .stop ≤ n
 
 module _ (s : List ℕ) where
-  marked : (b : Bool) (p : Span) (i j : ℕ) → (require b 13 p >>= λ x. ok i) ≡ ok j → i ≡ j
-  marked true p i j e = cc
-  marked false p i j e = never cc
-
-  line-on : (i j : ℕ) → lineEnd s i ≡ ok j → i ≤ j
-  unfolding lineEnd
-  line-on i j e =
-      let u = gave (nextToken s i) _ j e in
-      let q = marked (ends (u .given′ .kind)) (u .given′ .place) (u .given′ .place .stop) j (u .then′) in
-      omega (arith, token-ends s i (u .given′) (u .first) .least, q)
-
-  accepted-known : (i : ℕ) (ls : List Name) (t : Token) (x : Read) → nextToken s i ≡ ok t → Accepted s ls t x → Known s ls (x .next) (x .stmt)
+  accepted-known : (i : ℕ) (ls : List Name) (t : Token) (x : Read) → nextToken s i ≡ ok t → Rowed s ls t x → Known s ls (x .next) (x .stmt)
   accepted-known i ls t x e a =
       let g : Given = a .given′ in
-      let v : Taken s (a .base) (t .place .stop) (bare (a .base) (t .place .stop)) = record { light = omega arith; stands = tt; on = omega arith } in
-      let w : Taken s (a .base + _) (t .place .stop) g = operands-taken s (a .fields) (a .other) (a .base) (bare (a .base) (t .place .stop)) g (a .suited .each) v (a .taken) in
+      let k : Suited (a .row .op) (a .row .base) (a .fields) = suited s ls t (a .row) (a .fields) (a .headed) in
+      let v : Taken s (a .row .base) (t .place .stop) (bare (a .row .base) (t .place .stop)) = record { light = omega arith; stands = tt; on = omega arith } in
+      let w : Taken s (a .row .base + _) (t .place .stop) g = operands-taken s (a .fields) (a .other) (a .row .base) (bare (a .row .base) (t .place .stop)) g (k .each) v (a .taken) in
       rw (a .is) (record {
         labels = refl;
-        low = omega (arith, w .light, a .suited .room);
+        low = omega (arith, w .light, k .room);
         stands = w .stands;
-        text = λ q. string-taken s (a .other) (bare (a .base) (t .place .stop)) g (rw (a .suited .strung q) at (a .taken));
+        text = λ q. string-taken s (a .other) (bare (a .row .base) (t .place .stop)) g (rw (k .strung q) at (a .taken));
         rising = omega (arith, w .on, token-rises s i t e);
-        within = line-on (g .stop) (x .next) (a .ended);
+        within = line-along s _≤_ (λ i. omega arith) (λ i j k p q. omega arith) (λ i t q. token-ends s i t q .least) (g .stop) (x .next) (a .ended);
       })
 
   pub statement-known : (i : ℕ) (x : Read) → nextStatement s i ≡ ok (some x) → Known s (labelsAt s i) (x .next) (x .stmt)
   unfolding nextStatement
   statement-known i x e =
       let u = gave (nextToken s (pastLines s (pastLabels s i))) _ (some x) e in
-      accepted-known (pastLines s (pastLabels s i)) (labelsAt s i) (u .given′) x (u .first) (token-accepted s (labelsAt s i) (u .given′) x (u .then′))
+      accepted-known (pastLines s (pastLabels s i)) (labelsAt s i) (u .given′) x (u .first) (inverted s (labelsAt s i) (u .given′) (some x) (u .then′))
 
 -- what the code's word for it means
 meant : (o : Op) → o ≡ meantOp (codedOp o)

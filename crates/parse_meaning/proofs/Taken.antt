@@ -15,7 +15,7 @@ use Rattle.rules.specs.Tokens.{Num, plus, minus, Kind, number, register, mark, 
 use Rattle.rules.specs.Words.{Range, signed, Field, reg, regOrImm, num, near, name, string}
 use Rattle.rules.specs.Statements.{Name, Target, Piece, bits, target, chars, Given, add, asRegister, asNumber, asLabel, asName, asText, isMark, inRange, reduced, fit, named, need, operand, nameAt, operandAt, commaAt, moreFrom, operandsFrom}
 use Rattle.rules.proofs.Ahead.{token-ends}
-use Rattle.rules.proofs.Following.{gave}
+use Rattle.rules.proofs.Gave.{gave}
 use Rattle.rules.proofs.Bools.{never}
 use Rattle.parse_operands.specs.Lines.{reachOf}
 use Rattle.parse_labels.proofs.Texts.{Labels, name-stands}

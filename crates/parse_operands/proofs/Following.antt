@@ -14,7 +14,8 @@ use Rattle.rules.specs.Statements.{Piece, bits, target, chars, operand, add, ba
 use Rattle.rules.specs.Statements as rules
 use Rattle.rules.proofs.Bools.{never}
 use Rattle.lex_token.specs.declared.Lexeme.{Lexeme}
-use Rattle.lex.specs.Sorts.{Stands}
+use Rattle.lex_token.specs.Flat.{faultSort}
+use Rattle.lex.specs.Sorts.{Stands, NoFault}
 use Rattle.lex.proofs.Marks.{comma-sort}
 use Rattle.parse_field.specs.declared.Field as code
 use Rattle.parse_field.specs.declared.Given.{Given}
@@ -39,7 +40,7 @@ module _ (s : List ℕ) (k i : ℕ) where
     due-comma = rw (ne-eqb k 0 n)
 
     module _ (t : Lexeme) (h : Stands s i t) where
-      comma-token : t .sort < 11 → commaAt s i ≡ (require (eqb (t .sort) 8) 13 (span (t .start) (t .end)) >>= λ x. ok (t .end))
+      comma-token : NoFault t → commaAt s i ≡ (require (eqb (t .sort) 8) 13 (span (t .start) (t .end)) >>= λ x. ok (t .end))
       unfolding commaAt
       comma-token l = rw (h .token l, commaAt, comma-sort s t (t .sort) l)
 
@@ -49,16 +50,16 @@ module _ (s : List ℕ) (k i : ℕ) where
           let q : commaAt s i ≡ ok (t .end) = comma-token (omega arith) ∙ rw (eq-eqb (t .sort) 8 e) in
           sym (ap codedDue (due-comma ∙ q))
 
-      pub due-bad : t .sort ≡ 11 → due.Refused (t .value) (t .start) (t .end) ≡ codedDue (dueAt s k i)
+      pub due-bad : t .sort ≡ faultSort → due.Refused (t .value) (t .start) (t .end) ≡ codedDue (dueAt s k i)
       unfolding codedDue commaAt
       due-bad e =
           let q : commaAt s i ≡ refuse (t .value) (span (t .start) (t .end)) = rw (h .bad (omega arith), commaAt) in
           sym (ap codedDue (due-comma ∙ q))
 
-      pub due-other : (t .sort ≡ 8 → ⊥) → (t .sort ≡ 11 → ⊥) → due.Refused 13 (t .start) (t .end) ≡ codedDue (dueAt s k i)
+      pub due-other : (t .sort ≡ 8 → ⊥) → (t .sort ≡ faultSort → ⊥) → due.Refused 13 (t .start) (t .end) ≡ codedDue (dueAt s k i)
       unfolding codedDue
       due-other p q =
-          let l : t .sort < 11 = omega (arith, h .known) in
+          let l : NoFault t = omega (arith, h .known) in
           let y : commaAt s i ≡ refuse 13 (span (t .start) (t .end)) = comma-token l ∙ rw (ne-eqb (t .sort) 8 p) in
           sym (ap codedDue (due-comma ∙ y))
 

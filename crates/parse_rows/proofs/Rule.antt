@@ -1,29 +1,49 @@
 -- Each row of the table means the rules' row: the computed test, and what a search by name finds. Assumes nothing.
 use Prim.Native.Nat.{ℕ, zero, suc, _+_, _-_, _≤_, _<_}
-use mathlib.Core.Path.{_≡_, refl}
+use mathlib.Core.Path.{_≡_, refl, ap}
 use mathlib.Core.Bool.{Bool, true, false}
-use mathlib.Core.List.{List, [], _∷_}
+use mathlib.Core.List.{List, [], _∷_, map}
 use mathlib.Core.Option.{none, some}
 use native.Mathlib.Nat.{not-suc-le-zero, le-of-suc-le-suc}
 use native.Mathlib.Omega.{arith}
 use lib.ListN.{length, getD}
 use Rattle.rules.specs.Base.{if_then_else_, same}
-use Rattle.rules.specs.Words.{Row, instructions, directives, find}
+use Rattle.rules.specs.Words.{Op, Field, Row, instructions, directives, find}
 use Rattle.lex.specs.Sorts.{noRow}
-use Rattle.parse_rows.specs.Rows.{table, cells, fieldAt, opAt, rowAt, Means, codeFrom}
+use Rattle.parse_rows.specs.Rows.{table, cells, fieldAt, opAt, opOf, fieldsBy, rowAt, Means, codeFrom}
 
 -- the rows from j on mean these
 abbrev MeansFrom : ℕ → List Row → Type 0
 MeansFrom j [] = Unit {0}
 MeansFrom j (r ∷ rs) = Means (rowAt j) r × MeansFrom (j + 1) rs
 
+-- the computed test: what the code's row and the rules' row say
+abbrev Says : Type 0
+Says = Op × ℕ × List Field
+
+abbrev codeSays : ℕ → Says
+codeSays j = let c = rowAt j in (opOf (c .op), c .base, fieldsBy (c .count) (c .first) (c .second) (c .third))
+
+abbrev codeFromSays : ℕ → List Row → List Says
+codeFromSays j [] = []
+codeFromSays j (r ∷ rs) = codeSays j ∷ codeFromSays (j + 1) rs
+
+abbrev ruleSays : Row → Says
+ruleSays r = (r .op, r .base, r .fields)
+
+each-means : (j : ℕ) (rs : List Row) → codeFromSays j rs ≡ map ruleSays rs → MeansFrom j rs
+each-means j [] e = tt
+each-means j (r ∷ rs) e =
+    let h : codeSays j ≡ ruleSays r = cc in
+    (record { op = ap (λ (x : Says). x .0) h; base = ap (λ (x : Says). x .1) h; fields = ap (λ (x : Says). x .2) h }, each-means (j + 1) rs (cc))
+
 each-instruction : MeansFrom 0 instructions
 unfolding instructions table cells fieldAt opAt rowAt if_then_else_
-each-instruction = (record { op = refl; base = refl; fields = refl }, (record { op = refl; base = refl; fields = refl }, (record { op = refl; base = refl; fields = refl }, (record { op = refl; base = refl; fields = refl }, (record { op = refl; base = refl; fields = refl }, (record { op = refl; base = refl; fields = refl }, (record { op = refl; base = refl; fields = refl }, (record { op = refl; base = refl; fields = refl }, (record { op = refl; base = refl; fields = refl }, (record { op = refl; base = refl; fields = refl }, (record { op = refl; base = refl; fields = refl }, (record { op = refl; base = refl; fields = refl }, (record { op = refl; base = refl; fields = refl }, (record { op = refl; base = refl; fields = refl }, (record { op = refl; base = refl; fields = refl }, (record { op = refl; base = refl; fields = refl }, (record { op = refl; base = refl; fields = refl }, (record { op = refl; base = refl; fields = refl }, (record { op = refl; base = refl; fields = refl }, (record { op = refl; base = refl; fields = refl }, (record { op = refl; base = refl; fields = refl }, (record { op = refl; base = refl; fields = refl }, (record { op = refl; base = refl; fields = refl }, (record { op = refl; base = refl; fields = refl }, (record { op = refl; base = refl; fields = refl }, (record { op = refl; base = refl; fields = refl }, (record { op = refl; base = refl; fields = refl }, (record { op = refl; base = refl; fields = refl }, (record { op = refl; base = refl; fields = refl }, (record { op = refl; base = refl; fields = refl }, (record { op = refl; base = refl; fields = refl }, (record { op = refl; base = refl; fields = refl }, tt))))))))))))))))))))))))))))))))
+each-instruction = each-means 0 instructions refl
 
 each-directive : MeansFrom 32 directives
 unfolding directives table cells fieldAt opAt rowAt if_then_else_
-each-directive = (record { op = refl; base = refl; fields = refl }, (record { op = refl; base = refl; fields = refl }, (record { op = refl; base = refl; fields = refl }, (record { op = refl; base = refl; fields = refl }, (record { op = refl; base = refl; fields = refl }, (record { op = refl; base = refl; fields = refl }, tt))))))
+each-directive = each-means 32 directives refl
 
 means-at : (i j : ℕ) (rs : List Row) → MeansFrom j rs → i < length rs → Means (rowAt (j + i)) (getD rs i noRow)
 means-at i j [] m h = absurd (not-suc-le-zero h)

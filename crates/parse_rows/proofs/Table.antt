@@ -9,7 +9,6 @@ use lib.ListN.{getD}
 use Rattle.rules.specs.Base.{if_then_else_, same}
 use Rattle.rules.specs.Tokens.{upper}
 use Rattle.rules.specs.Words.{directives}
-use Rattle.rules.specs.Words as words
 use Rattle.rules.proofs.Run.{sameRun}
 use Rattle.parse_field.specs.declared.Field.{Field}
 use Rattle.parse_field.specs.declared.Field.the-variants.{Text}
@@ -66,74 +65,37 @@ module _ (i : ℕ) (l : i < 38) where
   unfolding rowAt
   row-made d o f g h p q u v w = rw (q, u, v, w, p, base-digits, count-digit, first-digit, second-digit, third-digit)
 
--- DIRECTIVES BY NAME
-module _ (w : List ℕ) (k : ℕ) (r : words.Row) (rs : List words.Row) where
-  code-here : same w (r .key) ≡ true → k ≡ codeFrom k w (r ∷ rs)
-  unfolding codeFrom if_then_else_
-  code-here e = rw e
+-- DIRECTIVES BY NAME: those before are not it
+module _ (w : List ℕ) (b1 : Bool) (e1 : b1 ≡ same w (map upper (79 ∷ 82 ∷ 73 ∷ 71 ∷ []))) where
+  pub code-1 : b1 ≡ true → 32 ≡ codeFrom 32 w directives
+  unfolding directives codeFrom if_then_else_ upper
+  code-1 t = rw (sym e1 ∙ t, codeFrom)
 
-  code-on : same w (r .key) ≡ false → codeFrom (k + 1) w rs ≡ codeFrom k w (r ∷ rs)
-  unfolding codeFrom if_then_else_
-  code-on e = rw e
+  module _ (f1 : b1 ≡ false) (b2 : Bool) (e2 : b2 ≡ same w (map upper (70 ∷ 73 ∷ 76 ∷ 76 ∷ []))) where
+    pub code-2 : b2 ≡ true → 33 ≡ codeFrom 32 w directives
+    unfolding directives codeFrom if_then_else_ upper
+    code-2 t = rw (sym e1 ∙ f1, sym e2 ∙ t, codeFrom)
 
-pub code-1 : (w : List ℕ) (b1 : Bool) → b1 ≡ same w (map upper (79 ∷ 82 ∷ 73 ∷ 71 ∷ [])) → b1 ≡ true → 32 ≡ codeFrom 32 w directives
-unfolding directives codeFrom if_then_else_ upper
-code-1 w b1 e1 t1 =
-    let q1 : same w (79 ∷ 82 ∷ 73 ∷ 71 ∷ []) ≡ true = sym e1 ∙ t1 in
-    rw (q1, codeFrom)
+    module _ (f2 : b2 ≡ false) (b3 : Bool) (e3 : b3 ≡ same w (map upper (66 ∷ 76 ∷ 75 ∷ 87 ∷ []))) where
+      pub code-3 : b3 ≡ true → 34 ≡ codeFrom 32 w directives
+      unfolding directives codeFrom if_then_else_ upper
+      code-3 t = rw (sym e1 ∙ f1, sym e2 ∙ f2, sym e3 ∙ t, codeFrom)
 
-pub code-2 : (w : List ℕ) (b1 b2 : Bool) → b1 ≡ same w (map upper (79 ∷ 82 ∷ 73 ∷ 71 ∷ [])) → b1 ≡ false → b2 ≡ same w (map upper (70 ∷ 73 ∷ 76 ∷ 76 ∷ [])) → b2 ≡ true → 33 ≡ codeFrom 32 w directives
-unfolding directives codeFrom if_then_else_ upper
-code-2 w b1 b2 e1 t1 e2 t2 =
-    let q1 : same w (79 ∷ 82 ∷ 73 ∷ 71 ∷ []) ≡ false = sym e1 ∙ t1 in
-    let q2 : same w (70 ∷ 73 ∷ 76 ∷ 76 ∷ []) ≡ true = sym e2 ∙ t2 in
-    rw (q1, q2, codeFrom)
+      module _ (f3 : b3 ≡ false) (b4 : Bool) (e4 : b4 ≡ same w (map upper (83 ∷ 84 ∷ 82 ∷ 73 ∷ 78 ∷ 71 ∷ 90 ∷ []))) where
+        pub code-4 : b4 ≡ true → 35 ≡ codeFrom 32 w directives
+        unfolding directives codeFrom if_then_else_ upper
+        code-4 t = rw (sym e1 ∙ f1, sym e2 ∙ f2, sym e3 ∙ f3, sym e4 ∙ t, codeFrom)
 
-pub code-3 : (w : List ℕ) (b1 b2 b3 : Bool) → b1 ≡ same w (map upper (79 ∷ 82 ∷ 73 ∷ 71 ∷ [])) → b1 ≡ false → b2 ≡ same w (map upper (70 ∷ 73 ∷ 76 ∷ 76 ∷ [])) → b2 ≡ false → b3 ≡ same w (map upper (66 ∷ 76 ∷ 75 ∷ 87 ∷ [])) → b3 ≡ true → 34 ≡ codeFrom 32 w directives
-unfolding directives codeFrom if_then_else_ upper
-code-3 w b1 b2 b3 e1 t1 e2 t2 e3 t3 =
-    let q1 : same w (79 ∷ 82 ∷ 73 ∷ 71 ∷ []) ≡ false = sym e1 ∙ t1 in
-    let q2 : same w (70 ∷ 73 ∷ 76 ∷ 76 ∷ []) ≡ false = sym e2 ∙ t2 in
-    let q3 : same w (66 ∷ 76 ∷ 75 ∷ 87 ∷ []) ≡ true = sym e3 ∙ t3 in
-    rw (q1, q2, q3, codeFrom)
+        module _ (f4 : b4 ≡ false) (b5 : Bool) (e5 : b5 ≡ same w (map upper (69 ∷ 78 ∷ 68 ∷ []))) where
+          pub code-5 : b5 ≡ true → 36 ≡ codeFrom 32 w directives
+          unfolding directives codeFrom if_then_else_ upper
+          code-5 t = rw (sym e1 ∙ f1, sym e2 ∙ f2, sym e3 ∙ f3, sym e4 ∙ f4, sym e5 ∙ t, codeFrom)
 
-pub code-4 : (w : List ℕ) (b1 b2 b3 b4 : Bool) → b1 ≡ same w (map upper (79 ∷ 82 ∷ 73 ∷ 71 ∷ [])) → b1 ≡ false → b2 ≡ same w (map upper (70 ∷ 73 ∷ 76 ∷ 76 ∷ [])) → b2 ≡ false → b3 ≡ same w (map upper (66 ∷ 76 ∷ 75 ∷ 87 ∷ [])) → b3 ≡ false → b4 ≡ same w (map upper (83 ∷ 84 ∷ 82 ∷ 73 ∷ 78 ∷ 71 ∷ 90 ∷ [])) → b4 ≡ true → 35 ≡ codeFrom 32 w directives
-unfolding directives codeFrom if_then_else_ upper
-code-4 w b1 b2 b3 b4 e1 t1 e2 t2 e3 t3 e4 t4 =
-    let q1 : same w (79 ∷ 82 ∷ 73 ∷ 71 ∷ []) ≡ false = sym e1 ∙ t1 in
-    let q2 : same w (70 ∷ 73 ∷ 76 ∷ 76 ∷ []) ≡ false = sym e2 ∙ t2 in
-    let q3 : same w (66 ∷ 76 ∷ 75 ∷ 87 ∷ []) ≡ false = sym e3 ∙ t3 in
-    let q4 : same w (83 ∷ 84 ∷ 82 ∷ 73 ∷ 78 ∷ 71 ∷ 90 ∷ []) ≡ true = sym e4 ∙ t4 in
-    rw (q1, q2, q3, q4, codeFrom)
+          module _ (f5 : b5 ≡ false) (b6 : Bool) (e6 : b6 ≡ same w (map upper (69 ∷ 88 ∷ 84 ∷ 69 ∷ 82 ∷ 78 ∷ 65 ∷ 76 ∷ []))) where
+            pub code-6 : b6 ≡ true → 37 ≡ codeFrom 32 w directives
+            unfolding directives codeFrom if_then_else_ upper
+            code-6 t = rw (sym e1 ∙ f1, sym e2 ∙ f2, sym e3 ∙ f3, sym e4 ∙ f4, sym e5 ∙ f5, sym e6 ∙ t, codeFrom)
 
-pub code-5 : (w : List ℕ) (b1 b2 b3 b4 b5 : Bool) → b1 ≡ same w (map upper (79 ∷ 82 ∷ 73 ∷ 71 ∷ [])) → b1 ≡ false → b2 ≡ same w (map upper (70 ∷ 73 ∷ 76 ∷ 76 ∷ [])) → b2 ≡ false → b3 ≡ same w (map upper (66 ∷ 76 ∷ 75 ∷ 87 ∷ [])) → b3 ≡ false → b4 ≡ same w (map upper (83 ∷ 84 ∷ 82 ∷ 73 ∷ 78 ∷ 71 ∷ 90 ∷ [])) → b4 ≡ false → b5 ≡ same w (map upper (69 ∷ 78 ∷ 68 ∷ [])) → b5 ≡ true → 36 ≡ codeFrom 32 w directives
-unfolding directives codeFrom if_then_else_ upper
-code-5 w b1 b2 b3 b4 b5 e1 t1 e2 t2 e3 t3 e4 t4 e5 t5 =
-    let q1 : same w (79 ∷ 82 ∷ 73 ∷ 71 ∷ []) ≡ false = sym e1 ∙ t1 in
-    let q2 : same w (70 ∷ 73 ∷ 76 ∷ 76 ∷ []) ≡ false = sym e2 ∙ t2 in
-    let q3 : same w (66 ∷ 76 ∷ 75 ∷ 87 ∷ []) ≡ false = sym e3 ∙ t3 in
-    let q4 : same w (83 ∷ 84 ∷ 82 ∷ 73 ∷ 78 ∷ 71 ∷ 90 ∷ []) ≡ false = sym e4 ∙ t4 in
-    let q5 : same w (69 ∷ 78 ∷ 68 ∷ []) ≡ true = sym e5 ∙ t5 in
-    rw (q1, q2, q3, q4, q5, codeFrom)
-
-pub code-6 : (w : List ℕ) (b1 b2 b3 b4 b5 b6 : Bool) → b1 ≡ same w (map upper (79 ∷ 82 ∷ 73 ∷ 71 ∷ [])) → b1 ≡ false → b2 ≡ same w (map upper (70 ∷ 73 ∷ 76 ∷ 76 ∷ [])) → b2 ≡ false → b3 ≡ same w (map upper (66 ∷ 76 ∷ 75 ∷ 87 ∷ [])) → b3 ≡ false → b4 ≡ same w (map upper (83 ∷ 84 ∷ 82 ∷ 73 ∷ 78 ∷ 71 ∷ 90 ∷ [])) → b4 ≡ false → b5 ≡ same w (map upper (69 ∷ 78 ∷ 68 ∷ [])) → b5 ≡ false → b6 ≡ same w (map upper (69 ∷ 88 ∷ 84 ∷ 69 ∷ 82 ∷ 78 ∷ 65 ∷ 76 ∷ [])) → b6 ≡ true → 37 ≡ codeFrom 32 w directives
-unfolding directives codeFrom if_then_else_ upper
-code-6 w b1 b2 b3 b4 b5 b6 e1 t1 e2 t2 e3 t3 e4 t4 e5 t5 e6 t6 =
-    let q1 : same w (79 ∷ 82 ∷ 73 ∷ 71 ∷ []) ≡ false = sym e1 ∙ t1 in
-    let q2 : same w (70 ∷ 73 ∷ 76 ∷ 76 ∷ []) ≡ false = sym e2 ∙ t2 in
-    let q3 : same w (66 ∷ 76 ∷ 75 ∷ 87 ∷ []) ≡ false = sym e3 ∙ t3 in
-    let q4 : same w (83 ∷ 84 ∷ 82 ∷ 73 ∷ 78 ∷ 71 ∷ 90 ∷ []) ≡ false = sym e4 ∙ t4 in
-    let q5 : same w (69 ∷ 78 ∷ 68 ∷ []) ≡ false = sym e5 ∙ t5 in
-    let q6 : same w (69 ∷ 88 ∷ 84 ∷ 69 ∷ 82 ∷ 78 ∷ 65 ∷ 76 ∷ []) ≡ true = sym e6 ∙ t6 in
-    rw (q1, q2, q3, q4, q5, q6, codeFrom)
-
-pub code-none : (w : List ℕ) (b1 b2 b3 b4 b5 b6 : Bool) → b1 ≡ same w (map upper (79 ∷ 82 ∷ 73 ∷ 71 ∷ [])) → b1 ≡ false → b2 ≡ same w (map upper (70 ∷ 73 ∷ 76 ∷ 76 ∷ [])) → b2 ≡ false → b3 ≡ same w (map upper (66 ∷ 76 ∷ 75 ∷ 87 ∷ [])) → b3 ≡ false → b4 ≡ same w (map upper (83 ∷ 84 ∷ 82 ∷ 73 ∷ 78 ∷ 71 ∷ 90 ∷ [])) → b4 ≡ false → b5 ≡ same w (map upper (69 ∷ 78 ∷ 68 ∷ [])) → b5 ≡ false → b6 ≡ same w (map upper (69 ∷ 88 ∷ 84 ∷ 69 ∷ 82 ∷ 78 ∷ 65 ∷ 76 ∷ [])) → b6 ≡ false → 38 ≡ codeFrom 32 w directives
-unfolding directives codeFrom if_then_else_ upper
-code-none w b1 b2 b3 b4 b5 b6 e1 t1 e2 t2 e3 t3 e4 t4 e5 t5 e6 t6 =
-    let q1 : same w (79 ∷ 82 ∷ 73 ∷ 71 ∷ []) ≡ false = sym e1 ∙ t1 in
-    let q2 : same w (70 ∷ 73 ∷ 76 ∷ 76 ∷ []) ≡ false = sym e2 ∙ t2 in
-    let q3 : same w (66 ∷ 76 ∷ 75 ∷ 87 ∷ []) ≡ false = sym e3 ∙ t3 in
-    let q4 : same w (83 ∷ 84 ∷ 82 ∷ 73 ∷ 78 ∷ 71 ∷ 90 ∷ []) ≡ false = sym e4 ∙ t4 in
-    let q5 : same w (69 ∷ 78 ∷ 68 ∷ []) ≡ false = sym e5 ∙ t5 in
-    let q6 : same w (69 ∷ 88 ∷ 84 ∷ 69 ∷ 82 ∷ 78 ∷ 65 ∷ 76 ∷ []) ≡ false = sym e6 ∙ t6 in
-    rw (q1, q2, q3, q4, q5, q6, codeFrom)
+            pub code-none : b6 ≡ false → 38 ≡ codeFrom 32 w directives
+            unfolding directives codeFrom if_then_else_ upper
+            code-none t = rw (sym e1 ∙ f1, sym e2 ∙ f2, sym e3 ∙ f3, sym e4 ∙ f4, sym e5 ∙ f5, sym e6 ∙ t, codeFrom)

@@ -8,10 +8,11 @@ use native.Mathlib.Omega.{arith}
 use lib.ListN.{length}
 use Rattle.rules.specs.Base.{Outcome, ok, refused, refuse, _>>=_}
 use Rattle.rules.specs.Statements.{Stmt, Read, nextStatement, statementsAt, statements}
-use Rattle.rules.specs.Passes.{Pass1State, pass1State, pass1Start, Cursor, Symbol, wordLen, labelled, directed, advanced, passOne}
+use Rattle.rules.specs.Passes.{Pass1State, pass1State, pass1Start, Cursor, Symbol, stepOne, passOne}
 use Rattle.rules.specs.Tables.{Table}
 use Rattle.rules.specs.Objects.{Name}
-use Rattle.rules.proofs.Following.{gave, statements-on, statements-none, statements-refused}
+use Rattle.rules.proofs.Gave.{gave}
+use Rattle.rules.proofs.Following.{statements-on, statements-none, statements-refused, passOne-step}
 use Rattle.rules.proofs.Bools.{never}
 use Rattle.pass1_symbols.specs.Symbols.{symbols}
 use Rattle.pass1_relocations.specs.Pending.{notes}
@@ -25,22 +26,14 @@ use Rattle.parse_meaning.proofs.Read.{faithful}
 use Rattle.pass1_state.specs.declared.Pass1State as code
 use Rattle.pass1_state.specs.declared.Pass1Step.{Pass1Step}
 use Rattle.pass1_state.specs.declared.Pass1Step.the-variants.{Went, Refused}
-use Rattle.pass1_state.specs.State.{viewPass1, told, Steady}
+use Rattle.pass1_state.specs.State.{viewPass1, told, Steady, fresh}
 use Rattle.pass1_state.specs.State as counting
 use Rattle.pass1_state.proofs.Counting.{went, stuck}
 use Rattle.pass1_fill.specs.Tables.{seen, Held, Stepping}
 use Rattle.pass1_directive.proofs.Directing.{over-none}
-use Rattle.pass1.specs.Steps.{stepOn, stepPass1, Stands, fresh, PassedOne}
+use Rattle.pass1.specs.Steps.{Stands, PassedOne}
 
--- THE RULE, step by step
-chained : {A B C : Type 0} (x : Outcome A) (f : A → Outcome B) (g : B → Outcome C) → ((x >>= f) >>= g) ≡ (x >>= λ a. f a >>= g)
-chained (ok a) f g = refl
-chained (refused r) f g = refl
-
-pass-more : (s : Stmt) (ss : List Stmt) (v : Pass1State) → passOne (s ∷ ss) v ≡ (stepPass1 s v >>= passOne ss)
-unfolding passOne stepPass1 stepOn
-pass-more s ss v = sym (chained (labelled (s .labels) (s .place) v) (stepOn s) (passOne ss) ∙ ap (λ (f : Pass1State → Outcome Pass1State). labelled (s .labels) (s .place) v >>= f) (λ i a. chained (directed (s .op) s a) (λ b. advanced (wordLen (s .op) s) (s .place) b) (passOne ss) i))
-
+-- THE RULE at the end
 pass-open : (c : Cursor) (x : Table Name Symbol) (y : Table ℕ Name) (b w : ℕ) → passOne [] (pass1State (some c) x y b w) ≡ refuse 22 (c .place)
 unfolding passOne
 pass-open c x y b w = refl
@@ -143,8 +136,8 @@ module _ (rs₀ qs₀ rs qs src : List ℕ) (at : ℕ) (o : code.Pass1State) (g 
     pub going-stands : Stands src st
     going-stands = record { at = at; stmt = it .read .stmt; faithful = true-to }
 
-    module _ (rs′ qs′ : List ℕ) (a : Pass1Step) (k : (s : Stmt) → Faithful src at st s → Stepping rs qs src rs′ qs′ o (stepPass1 s) a) where
-      step : Stepping rs qs src rs′ qs′ o (stepPass1 (it .read .stmt)) a
+    module _ (rs′ qs′ : List ℕ) (a : Pass1Step) (k : (s : Stmt) → Faithful src at st s → Stepping rs qs src rs′ qs′ o (stepOne s) a) where
+      step : Stepping rs qs src rs′ qs′ o (stepOne (it .read .stmt)) a
       step = k (it .read .stmt) true-to
 
       -- what is left after it
@@ -162,7 +155,7 @@ module _ (rs₀ qs₀ rs qs src : List ℕ) (at : ℕ) (o : code.Pass1State) (g 
             rest = w .given′;
             is = ap (λ (i : ℕ). statementsAt src i) (sym nexts) ∙ w .first;
             same = ap (λ (t : Outcome Pass1State). t >>= passOne (w .given′)) (step .rule)
-                ∙ (sym (pass-more (it .read .stmt) (w .given′) (seen rs qs src o))
+                ∙ (sym (passOne-step (it .read .stmt) (w .given′) (seen rs qs src o))
                 ∙ (ap (λ (t : List Stmt). passOne t (seen rs qs src o)) m ∙ l .same));
           }
 

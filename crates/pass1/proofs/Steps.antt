@@ -5,7 +5,7 @@ use mathlib.Core.List.{List}
 use Prim.Native.Nat.{ℕ, _-_, _<_}
 use Rattle.rules.specs.Base.{Outcome, ok, refuse2, _>>=_, span}
 use Rattle.rules.specs.Statements.{Name, Stmt, labelsAt}
-use Rattle.rules.specs.Passes.{Pass1State, wordLen, labelled, directed, advanced}
+use Rattle.rules.specs.Passes.{Pass1State, wordLen, labelled, directed, advanced, stepOne}
 use Rattle.pass1_symbols.specs.Symbols.{symbols}
 use Rattle.pass1_relocations.specs.Pending.{notes}
 use Rattle.parse.specs.declared.Statement.{Statement}
@@ -19,7 +19,7 @@ use Rattle.pass1_labels.specs.Tables as naming
 use Rattle.pass1_fill.specs.Tables.{seen, Held, Stepping}
 use Rattle.pass1_directive.specs.Sound.{Sound}
 use Rattle.pass1_directive.proofs.Directing.{sound, over-none, over-names}
-use Rattle.pass1.specs.Steps.{stepOn, stepPass1, Stands}
+use Rattle.pass1.specs.Steps.{stepOn, Stands}
 
 -- ONE STEP AFTER ANOTHER
 module _ (rs qs src rs′ qs′ : List ℕ) (o : code.Pass1State) (f : Pass1State → Outcome Pass1State) (a : Pass1Step) (k : Stepping rs qs src rs′ qs′ o f a) (g : Pass1State → Outcome Pass1State) where
@@ -70,10 +70,10 @@ module _ (rs qs src : List ℕ) (o : code.Pass1State) (st : Statement) (w : Stan
 -- WITHOUT LABELS
 module _ (rs qs src : List ℕ) (o : code.Pass1State) (st : Statement) (rs′ qs′ : List ℕ) (r : Pass1Step) (z : st .labelled ≡ false)
     (k : (at : ℕ) (s : Stmt) → Faithful src at st s → Stepping rs qs src rs′ qs′ o (stepOn s) r) where
-  pub step-bare : (at : ℕ) (s : Stmt) → Faithful src at st s → Stepping rs qs src rs′ qs′ o (stepPass1 s) r
-  unfolding stepPass1 labelled
+  pub step-bare : (at : ℕ) (s : Stmt) → Faithful src at st s → Stepping rs qs src rs′ qs′ o (stepOne s) r
+  unfolding stepOne stepOn labelled
   step-bare at s f =
-      let q : stepPass1 s (seen rs qs src o) ≡ stepOn s (seen rs qs src o) = ap (λ (ls : List Name). labelled ls (s .place) (seen rs qs src o) >>= stepOn s) (f .unlabelled z) in
+      let q : stepOne s (seen rs qs src o) ≡ stepOn s (seen rs qs src o) = ap (λ (ls : List Name). labelled ls (s .place) (seen rs qs src o) >>= stepOn s) (f .unlabelled z) in
       record { rule = k at s f .rule ∙ sym q; kept = k at s f .kept }
 
 -- FROM THE LABELS ON
@@ -88,11 +88,11 @@ module _ (rs qs src : List ℕ) (o : code.Pass1State) (h : Held rs qs src o) (st
   labels-by : (s : Stmt) → Faithful src at st s → Stepping rs qs src rs′ qs o (λ v. labelled (s .labels) (s .place) v) a
   labels-by s f = record { rule = both .rule ∙ (λ i. labelled (sym (f .labels) i) (sym (f .place) i) (seen rs qs src o)); kept = both .kept }
 
-  pub step-refused : (n c d e l : ℕ) → a ≡ Refused n c d e l → (s : Stmt) → Faithful src at st s → Stepping rs qs src rs′ qs o (stepPass1 s) a
-  unfolding stepPass1
+  pub step-refused : (n c d e l : ℕ) → a ≡ Refused n c d e l → (s : Stmt) → Faithful src at st s → Stepping rs qs src rs′ qs o (stepOne s) a
+  unfolding stepOne stepOn
   step-refused n c d e l q s f = then-refused rs qs src rs′ qs o (λ v. labelled (s .labels) (s .place) v) a (labels-by s f) (stepOn s) n c d e l q
 
   module _ (b : code.Pass1State) (q : a ≡ Went b) where
-    pub step-went : (rs″ qs″ : List ℕ) (r : Pass1Step) → ((at : ℕ) (s : Stmt) → Faithful src at st s → Stepping rs′ qs src rs″ qs″ b (stepOn s) r) → (s : Stmt) → Faithful src at st s → Stepping rs qs src rs″ qs″ o (stepPass1 s) r
-    unfolding stepPass1
+    pub step-went : (rs″ qs″ : List ℕ) (r : Pass1Step) → ((at : ℕ) (s : Stmt) → Faithful src at st s → Stepping rs′ qs src rs″ qs″ b (stepOn s) r) → (s : Stmt) → Faithful src at st s → Stepping rs qs src rs″ qs″ o (stepOne s) r
+    unfolding stepOne stepOn
     step-went rs″ qs″ r j s f = then-went rs qs src rs′ qs o (λ v. labelled (s .labels) (s .place) v) a (labels-by s f) (stepOn s) b q rs″ qs″ r (j at s f)

@@ -1,11 +1,10 @@
--- Pass one at a statement, as the rules' `passOne` has it, and over a whole source. Assumes nothing.
+-- Pass one at a statement, as the rules' `stepOne` has it, and over a whole source. Assumes nothing.
 use mathlib.Core.Path.{_≡_}
-use mathlib.Core.Bool.{false}
 use mathlib.Core.List.{List}
 use Prim.Native.Nat.{ℕ}
 use Rattle.rules.specs.Base.{Outcome, ok, _>>=_}
 use Rattle.rules.specs.Statements.{Stmt, statements}
-use Rattle.rules.specs.Passes.{Pass1State, pass1Start, wordLen, labelled, directed, advanced, passOne}
+use Rattle.rules.specs.Passes.{Pass1State, pass1Start, wordLen, directed, advanced, passOne}
 use Rattle.parse.specs.declared.Statement.{Statement}
 use Rattle.parse.specs.Coded.{AllRead}
 use Rattle.parse_meaning.specs.Reading.{Faithful}
@@ -17,22 +16,15 @@ use Rattle.pass1_state.specs.declared.Pass1Step.the-variants.{Went}
 use Rattle.pass1_state.specs.State.{told}
 use Rattle.pass1_fill.specs.Tables.{Held}
 
--- a statement: its labels, then what it directs, then advance
+-- a statement after its labels: what it directs, then advance
 unfoldable pub stepOn : Stmt → Pass1State → Outcome Pass1State
 stepOn s o = directed (s .op) s o >>= λ b. advanced (wordLen (s .op) s) (s .place) b
-
-unfoldable pub stepPass1 : Stmt → Pass1State → Outcome Pass1State
-stepPass1 s o = labelled (s .labels) (s .place) o >>= stepOn s
 
 -- st stands for a statement of the rules
 pub record Stands (src : List ℕ) (st : Statement) : Type 0 where
   pub at : ℕ
   pub stmt : Stmt
   pub faithful : Faithful src at st stmt
-
--- pass one before the first statement
-abbrev pub fresh : code.Pass1State
-fresh = record { inside = false; start = 0; counter = 0; «orig_start» = 0; «orig_end» = 0; labels = 0; relocations = 0; blocks = 0; words = 0 }
 
 -- what pass one says of a source whose statements are read, and the tables that it leaves; where it goes to the end, all statements are read
 pub record PassedOne (rs′ qs′ src : List ℕ) (r : Pass1Step) : Type 0 where

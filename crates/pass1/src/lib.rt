@@ -3,17 +3,16 @@ use parse::NextStatement;
 use parse::Statement;
 use pass1_state::Pass1State;
 use pass1_state::Pass1Step;
-ghost use mathlib.Core.Path.{_≡_};
 ghost use mathlib.Core.List.{[]};
 ghost use Prim.Native.Nat.{ℕ, _≤_};
 ghost use lib.ListN.{length};
 ghost use Rattle.rules.specs.Statements.{Stmt};
-ghost use Rattle.rules.specs.Passes.{passOne};
+ghost use Rattle.rules.specs.Passes.{stepOne, passOne};
 ghost use Rattle.pass1_state.specs.State.{viewPass1, Steady};
 ghost use Rattle.pass1_state.specs.State as Counting;
 ghost use Rattle.parse_meaning.specs.Reading.{Faithful};
 ghost use Rattle.pass1_fill.specs.Tables.{Held, Stepping};
-ghost use Rattle.pass1.specs.Steps.{stepOn, stepPass1, Stands, fresh, PassedOne};
+ghost use Rattle.pass1.specs.Steps.{stepOn, Stands, PassedOne};
 
 // A statement after its labels: what it directs, then the counter's advance.
 fn step_on(
@@ -52,7 +51,7 @@ fn step_labelled(
     o: Pass1State,
 ) -> Pass1Step
     requires { ⌜ Held (now labels) (now relocations) (now src) o × Stands (now src) st ⌝ }
-    ensures { λ r. ⌜ ((s : Stmt) → Faithful (now (src .entry)) at st s → Stepping (now (labels .entry)) (now (relocations .entry)) (now (src .entry)) (now (labels .exit)) (now (relocations .exit)) o (stepPass1 s) r) ⌝ }
+    ensures { λ r. ⌜ ((s : Stmt) → Faithful (now (src .entry)) at st s → Stepping (now (labels .entry)) (now (relocations .entry)) (now (src .entry)) (now (labels .exit)) (now (relocations .exit)) o (stepOne s) r) ⌝ }
 {
     let answer = pass1_labels::define_labels(src, labels, at, o, st.start, st.end);
     match answer {
@@ -77,29 +76,12 @@ fn step(
     o: Pass1State,
 ) -> Pass1Step
     requires { ⌜ Held (now labels) (now relocations) (now src) o × Stands (now src) st ⌝ }
-    ensures { λ r. ⌜ ((s : Stmt) → Faithful (now (src .entry)) at st s → Stepping (now (labels .entry)) (now (relocations .entry)) (now (src .entry)) (now (labels .exit)) (now (relocations .exit)) o (stepPass1 s) r) ⌝ }
+    ensures { λ r. ⌜ ((s : Stmt) → Faithful (now (src .entry)) at st s → Stepping (now (labels .entry)) (now (relocations .entry)) (now (src .entry)) (now (labels .exit)) (now (relocations .exit)) o (stepOne s) r) ⌝ }
 {
     if st.labelled {
         return step_labelled(src, labels, relocations, at, st, o);
     }
     step_on(src, labels, relocations, st, o)
-}
-
-// Pass one before the first statement.
-fn begin() -> Pass1State
-    ensures { λ r. ⌜ r ≡ fresh ⌝ }
-{
-    Pass1State {
-        inside: false,
-        start: 0,
-        counter: 0,
-        orig_start: 0,
-        orig_end: 0,
-        labels: 0,
-        relocations: 0,
-        blocks: 0,
-        words: 0,
-    }
 }
 
 // The end of the source: 22 at the .orig of a block that is open.
@@ -119,7 +101,7 @@ pub fn pass_one(src: &[u8], labels: &mut [u32], relocations: &mut [u32]) -> Pass
     ensures { λ r. ⌜ PassedOne (now (labels .exit)) (now (relocations .exit)) (now (src .entry)) r ⌝ }
 {
     let mut at = 0;
-    let mut o = begin();
+    let mut o = pass1_state::fresh();
     loop {
         match parse::next_statement(src, at) {
             NextStatement::Read(st) => {

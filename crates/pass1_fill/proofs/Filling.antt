@@ -26,8 +26,8 @@ use Rattle.pass1_relocations.specs.declared.Noted.the-variants as noted
 use Rattle.pass1_state.specs.declared.Pass1State as code
 use Rattle.pass1_state.specs.declared.Pass1Step.{Pass1Step}
 use Rattle.pass1_state.specs.declared.Pass1Step.the-variants as stepped
-use Rattle.pass1_state.specs.State.{cursor, told}
-use Rattle.pass1_fill.specs.Tables.{withRelocations, stepOf, outerLab, isOuter, seen, Held, Stepping}
+use Rattle.pass1_state.specs.State.{cursor, told, withRelocations}
+use Rattle.pass1_fill.specs.Tables.{stepOf, outerLab, isOuter, seen, Held, Stepping}
 
 -- THE RULE, case by case
 fill-rule : (s : Stmt) (t : Target) (v : Pass1State) → s .target ≡ some t → directed fill s v ≡ filled (t .name) (s .place) v

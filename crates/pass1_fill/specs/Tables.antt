@@ -16,12 +16,8 @@ use Rattle.pass1_relocations.specs.declared.Noted.the-variants as noted
 use Rattle.pass1_state.specs.declared.Pass1State.{Pass1State}
 use Rattle.pass1_state.specs.declared.Pass1Step.{Pass1Step}
 use Rattle.pass1_state.specs.declared.Pass1Step.the-variants.{Went, Refused}
-use Rattle.pass1_state.specs.State.{viewPass1, told}
+use Rattle.pass1_state.specs.State.{viewPass1, told, withRelocations}
 use Rattle.pass1_labels.specs.Tables.{Lent}
-
--- the state with so many rows of relocations
-abbrev pub withRelocations : Pass1State → ℕ → Pass1State
-withRelocations o n = record { inside = o .inside; start = o .start; counter = o .counter; «orig_start» = o .«orig_start»; «orig_end» = o .«orig_end»; labels = o .labels; relocations = n; blocks = o .blocks; words = o .words }
 
 -- what a relocation noted or not makes of a state, for a statement from a up to e
 abbrev pub stepOf : Pass1State → (a e : ℕ) → Noted → Pass1Step

@@ -1,4 +1,5 @@
 // Pass one at a .fill of a label: a relocation where the label is an external.
+use base_casts::narrow;
 use pass1_relocations::Noted;
 use pass1_state::Pass1State;
 use pass1_state::Pass1Step;
@@ -14,14 +15,7 @@ ghost use Rattle.rules.specs.Statements.{Stmt, Target};
 ghost use Rattle.rules.specs.Passes.{directed};
 ghost use Rattle.parse_labels.specs.Names.{nameFrom, nameBetween, Between};
 ghost use Rattle.pass1_symbols.specs.Symbols.{symbols, Growing};
-ghost use Rattle.pass1_fill.specs.Tables.{withRelocations, stepOf, isOuter, Held, Stepping};
-
-fn narrow(x: usize) -> u32
-    requires { ⌜ x ≤ 262144 ⌝ }
-    ensures { λ r. ⌜ r ≡ x ⌝ }
-{
-    x as u32
-}
+ghost use Rattle.pass1_fill.specs.Tables.{stepOf, isOuter, Held, Stepping};
 
 // The external flag of row k.
 fn flag_of(rows: &[u32], k: usize) -> u32
@@ -32,29 +26,12 @@ fn flag_of(rows: &[u32], k: usize) -> u32
     rows[i]
 }
 
-// The state with so many rows of relocations.
-fn with_relocations(o: Pass1State, relocations: usize) -> Pass1State
-    ensures { λ r. ⌜ r ≡ withRelocations o relocations ⌝ }
-{
-    Pass1State {
-        inside: o.inside,
-        start: o.start,
-        counter: o.counter,
-        orig_start: o.orig_start,
-        orig_end: o.orig_end,
-        labels: o.labels,
-        relocations,
-        blocks: o.blocks,
-        words: o.words,
-    }
-}
-
 // What adding a relocation answers, as a step from a state.
 fn step_of(o: Pass1State, answer: Noted, start: usize, end: usize) -> Pass1Step
     ensures { λ r. ⌜ r ≡ stepOf o start end answer ⌝ }
 {
     match answer {
-        Noted::Held(n) => Pass1Step::Went(with_relocations(o, n)),
+        Noted::Held(n) => Pass1Step::Went(pass1_state::with_relocations(o, n)),
         Noted::Full => pass1_state::refused(base_refusals::TABLE_FULL, start, end),
     }
 }

@@ -23,13 +23,13 @@ use Rattle.pass1_symbols.specs.Symbols.{symbols, Growing}
 use Rattle.pass1_state.specs.declared.Pass1State as code
 use Rattle.pass1_state.specs.declared.Pass1Step.{Pass1Step}
 use Rattle.pass1_state.specs.declared.Pass1Step.the-variants as stepped
-use Rattle.pass1_state.specs.State.{cursor, cursorOf, viewPass1, told, Steady}
+use Rattle.pass1_state.specs.State.{cursor, cursorOf, viewPass1, told, Steady, withLabels}
 use Rattle.pass1_labels.specs.declared.LabelsAdded.{LabelsAdded}
 use Rattle.pass1_labels.specs.declared.LabelsAdded.the-variants.{Held, Refused}
 use Rattle.pass1_labels.specs.Naming.{NameAdded, NamesReady, NamesAdded}
 use Rattle.pass1_labels.specs.Naming as naming
 use Rattle.pass1_labels.proofs.Adding.{met, unmet}
-use Rattle.pass1_labels.specs.Tables.{withLabels, stepOf, Lent, Kept, Stepping}
+use Rattle.pass1_labels.specs.Tables.{stepOf, Lent, Kept, Stepping}
 
 -- THE RULE, case by case
 labelled-none : (p : Span) (o : Pass1State) → labelled [] p o ≡ ok o

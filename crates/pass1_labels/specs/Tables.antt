@@ -11,13 +11,9 @@ use Rattle.pass1_symbols.specs.Symbols.{symbols, Growing}
 use Rattle.pass1_state.specs.declared.Pass1State.{Pass1State}
 use Rattle.pass1_state.specs.declared.Pass1Step.{Pass1Step}
 use Rattle.pass1_state.specs.declared.Pass1Step.the-variants as stepped
-use Rattle.pass1_state.specs.State.{viewPass1, told, Steady}
+use Rattle.pass1_state.specs.State.{viewPass1, told, Steady, withLabels}
 use Rattle.pass1_labels.specs.declared.LabelsAdded.{LabelsAdded}
 use Rattle.pass1_labels.specs.declared.LabelsAdded.the-variants.{Held, Refused}
-
--- the state with so many rows of symbols
-abbrev pub withLabels : Pass1State → ℕ → Pass1State
-withLabels o n = record { inside = o .inside; start = o .start; counter = o .counter; «orig_start» = o .«orig_start»; «orig_end» = o .«orig_end»; labels = n; relocations = o .relocations; blocks = o .blocks; words = o .words }
 
 abbrev pub stepOf : Pass1State → LabelsAdded → Pass1Step
 stepOf o (Held n) = stepped.Went (withLabels o n)

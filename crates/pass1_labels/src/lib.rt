@@ -1,6 +1,8 @@
 // Pass one at names: they go into the symbol table, the labels before a statement at the counter, that of an .external at 0.
 use base_capacities::DEFINED;
 use base_capacities::EXTERNAL;
+use base_casts::narrow;
+use base_casts::wide;
 use parse_labels::NextLabel;
 use pass1_state::Pass1State;
 use pass1_state::Pass1Step;
@@ -15,7 +17,7 @@ ghost use Rattle.rules.specs.Statements.{Stmt, Target, labelsAt};
 ghost use Rattle.rules.specs.Passes.{labelled, directed};
 ghost use Rattle.pass1_labels.specs.Naming.{NameReady, NameAdded, NamesReady, NamesAdded};
 ghost use Rattle.parse_labels.specs.Names.{nameBetween, Between};
-ghost use Rattle.pass1_labels.specs.Tables.{withLabels, stepOf, Lent, Stepping};
+ghost use Rattle.pass1_labels.specs.Tables.{stepOf, Lent, Stepping};
 
 // The table has so many rows, with what was added; or the refusal with its number and both spans.
 pub enum LabelsAdded {
@@ -27,19 +29,6 @@ pub enum LabelsAdded {
         start2: usize,
         end2: usize,
     },
-}
-
-fn wide(x: u32) -> usize
-    ensures { λ r. ⌜ r ≡ x ⌝ }
-{
-    x as usize
-}
-
-fn narrow(x: usize) -> u32
-    requires { ⌜ x ≤ 262144 ⌝ }
-    ensures { λ r. ⌜ r ≡ x ⌝ }
-{
-    x as u32
 }
 
 // A cell of row k.
@@ -143,29 +132,12 @@ pub fn add_labels(
     }
 }
 
-// The state with so many rows of symbols.
-pub fn with_labels(o: Pass1State, labels: usize) -> Pass1State
-    ensures { λ r. ⌜ r ≡ withLabels o labels ⌝ }
-{
-    Pass1State {
-        inside: o.inside,
-        start: o.start,
-        counter: o.counter,
-        orig_start: o.orig_start,
-        orig_end: o.orig_end,
-        labels,
-        relocations: o.relocations,
-        blocks: o.blocks,
-        words: o.words,
-    }
-}
-
 // What adding names answers, as a step from a state.
 pub fn step_of(o: Pass1State, answer: LabelsAdded) -> Pass1Step
     ensures { λ r. ⌜ r ≡ stepOf o answer ⌝ }
 {
     match answer {
-        LabelsAdded::Held(n) => Pass1Step::Went(with_labels(o, n)),
+        LabelsAdded::Held(n) => Pass1Step::Went(pass1_state::with_labels(o, n)),
         LabelsAdded::Refused {
             number,
             start,

@@ -32,7 +32,7 @@ row-of-name m ss src j x v l e =
     (rw (← e) (row-index m (upperRow ss src) (sorted-tab nameOrder m (upperRow ss src) (record { next = v .up .next })) j l))
 
 module _ {rs src ss : List ℕ} {n m : ℕ} {r : Row} {x : Name} (v : Resolved rs src n ss m) (t : Found m ss src x r) where
-  pub row-low : {j : ℕ} → r ≡ At j → j ≤ 1024
+  pub row-low : {j : ℕ} → r ≡ At j → j ≤ 262144
   row-low {j} e = omega (arith, t .row j e .0, v .names .few)
 
   pub row-found : {j i : ℕ} → r ≡ At j → i ≡ j → i ≡ rowOf (labelsOf m ss src) x

@@ -7,6 +7,7 @@ ghost use Rattle.object.specs.Decides.{Decides};
 ghost use Rattle.object_layout_labels.specs.Laying.{Blank};
 ghost use Rattle.pass1_relocations.specs.Pending.{noteRow, notes, Pending, Bound, AtAddress, Ready, Adding};
 ghost use Rattle.pass1_relocations.specs.Resolved.{labelsOf, Resolved};
+use base_casts::narrow;
 use pass1_symbols::Row;
 
 // What becomes of a relocation: the table has so many rows, with it; or no row is left.
@@ -91,13 +92,6 @@ pub fn add_relocation(
     }
     base_rows::insert_four(rows, n, p, address, 0, start, size);
     Noted::Held(n + 1)
-}
-
-fn narrow(x: usize) -> u32
-    requires { ⌜ x ≤ 1024 ⌝ }
-    ensures { λ r. ⌜ r ≡ x ⌝ }
-{
-    x as u32
 }
 
 // The row of the label that row k names, among m symbols that have it.

@@ -46,6 +46,18 @@ pub record Stepping (o : Pass1State) (f : (ℕ → Table Name Symbol) → (ℕ �
   pub rule : (x : ℕ → Table Name Symbol) (y : ℕ → Table ℕ Name) → told x y r ≡ f x y
   pub kept : (o′ : Pass1State) → r ≡ Went o′ → Kept o o′
 
+-- pass one before the first statement
+abbrev pub fresh : Pass1State
+fresh = record { inside = false; start = 0; counter = 0; «orig_start» = 0; «orig_end» = 0; labels = 0; relocations = 0; blocks = 0; words = 0 }
+
+-- the state with so many rows of symbols
+abbrev pub withLabels : Pass1State → ℕ → Pass1State
+withLabels o n = record { inside = o .inside; start = o .start; counter = o .counter; «orig_start» = o .«orig_start»; «orig_end» = o .«orig_end»; labels = n; relocations = o .relocations; blocks = o .blocks; words = o .words }
+
+-- the state with so many rows of relocations
+abbrev pub withRelocations : Pass1State → ℕ → Pass1State
+withRelocations o n = record { inside = o .inside; start = o .start; counter = o .counter; «orig_start» = o .«orig_start»; «orig_end» = o .«orig_end»; labels = o .labels; relocations = n; blocks = o .blocks; words = o .words }
+
 -- the states that the steps make
 abbrev pub counting : Pass1State → ℕ → Pass1State
 counting o n = record { inside = true; start = o .start; counter = n; «orig_start» = o .«orig_start»; «orig_end» = o .«orig_end»; labels = o .labels; relocations = o .relocations; blocks = o .blocks; words = o .words }

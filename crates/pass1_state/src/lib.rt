@@ -1,4 +1,5 @@
-// What pass one keeps beside its tables, and its steps that change no table: the counter's advance, .orig and .end.
+// What pass one keeps beside its tables, whatever changes it, and the steps that change no table: the counter's advance, .orig and .end.
+use base_casts::wide;
 ghost use mathlib.Core.Path.{_≡_};
 ghost use Prim.Native.Nat.{_+_, _-_, _≤_, _<_};
 ghost use Rattle.rules.specs.Base.{span};
@@ -6,7 +7,7 @@ ghost use Rattle.rules.specs.Words.{orig};
 ghost use Rattle.rules.specs.Words as Words;
 ghost use Rattle.rules.specs.Statements.{Stmt};
 ghost use Rattle.rules.specs.Passes.{advanced, directed};
-ghost use Rattle.pass1_state.specs.State.{viewPass1, counting, opening, closing, Steady, Stepping};
+ghost use Rattle.pass1_state.specs.State.{viewPass1, fresh, withLabels, withRelocations, counting, opening, closing, Steady, Stepping};
 
 // The open block's start, counter and .orig, where a block is open; the rows of both tables; and how many blocks with words are closed, with how many words.
 pub struct Pass1State {
@@ -43,6 +44,57 @@ pub fn refused(number: u16, start: usize, end: usize) -> Pass1Step
         end,
         start2: 0,
         end2: 0,
+    }
+}
+
+// Pass one before the first statement.
+pub fn fresh() -> Pass1State
+    ensures { λ r. ⌜ r ≡ fresh ⌝ }
+{
+    Pass1State {
+        inside: false,
+        start: 0,
+        counter: 0,
+        orig_start: 0,
+        orig_end: 0,
+        labels: 0,
+        relocations: 0,
+        blocks: 0,
+        words: 0,
+    }
+}
+
+// The state with so many rows of symbols.
+pub fn with_labels(o: Pass1State, labels: usize) -> Pass1State
+    ensures { λ r. ⌜ r ≡ withLabels o labels ⌝ }
+{
+    Pass1State {
+        inside: o.inside,
+        start: o.start,
+        counter: o.counter,
+        orig_start: o.orig_start,
+        orig_end: o.orig_end,
+        labels,
+        relocations: o.relocations,
+        blocks: o.blocks,
+        words: o.words,
+    }
+}
+
+// The state with so many rows of relocations.
+pub fn with_relocations(o: Pass1State, relocations: usize) -> Pass1State
+    ensures { λ r. ⌜ r ≡ withRelocations o relocations ⌝ }
+{
+    Pass1State {
+        inside: o.inside,
+        start: o.start,
+        counter: o.counter,
+        orig_start: o.orig_start,
+        orig_end: o.orig_end,
+        labels: o.labels,
+        relocations,
+        blocks: o.blocks,
+        words: o.words,
     }
 }
 
@@ -95,12 +147,6 @@ fn shut(o: Pass1State, blocks: usize, words: usize) -> Pass1State
         blocks,
         words,
     }
-}
-
-fn wide(x: u32) -> usize
-    ensures { λ r. ⌜ r ≡ x ⌝ }
-{
-    x as usize
 }
 
 // The counter goes on by a statement's size: 27 from xFE01 to x10000, 26 above.

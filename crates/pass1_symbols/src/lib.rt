@@ -8,6 +8,7 @@ ghost use Rattle.object_layout_labels.specs.Laying.{LabelRoom, LaidLabels};
 ghost use Rattle.object.specs.Slots.{Slotted};
 ghost use Rattle.pass1_symbols.specs.Symbols.{symbols, Growing, InsertAt, Inserted};
 ghost use Rattle.pass1_symbols.specs.Adding.{Found, Ready, Adding};
+use base_casts::wide;
 use object::Slot;
 
 // What becomes of a name at an address: the table has so many rows, with it; row k has it at another address; or no row is left.
@@ -21,12 +22,6 @@ pub enum Added {
 pub enum Row {
     At(usize),
     Nothing,
-}
-
-fn wide(x: u32) -> usize
-    ensures { λ r. ⌜ r ≡ x ⌝ }
-{
-    x as usize
 }
 
 // The address of row k.

@@ -13,7 +13,8 @@ use Rattle.rules.specs.Statements.{Stmt, Read, nextStatement, statementsAt, sta
 use Rattle.rules.specs.Passes.{Symbol, Pass1State, pass1Start, Pass2State, pass2Start, written, passOne, passTwo}
 use Rattle.rules.specs.Buffers.{zeros}
 use Rattle.rules.proofs.Rows.{getD-zeros}
-use Rattle.rules.proofs.Following.{gave, statements-on, statements-none, statements-refused}
+use Rattle.rules.proofs.Gave.{gave}
+use Rattle.rules.proofs.Following.{statements-on, statements-none, statements-refused}
 use Rattle.rules.proofs.Bools.{never}
 use Rattle.laws.proofs.Steps.{ended}
 use Rattle.laws.proofs.Alongside.{Level, Alongside, along-start, along-step}

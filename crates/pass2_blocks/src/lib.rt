@@ -1,4 +1,5 @@
 // The closed blocks of pass two, by start: rows of start and length beside rows of their .orig places, and their words one after another.
+use base_casts::wide16;
 ghost use mathlib.Core.Path.{_≡_};
 ghost use Prim.Native.Nat.{_+_, _*_, _≤_, _<_};
 ghost use lib.ListN.{length, getD};
@@ -22,12 +23,6 @@ pub enum Placing {
 pub enum Spot {
     Clash(usize),
     Free { row: usize, at: usize },
-}
-
-fn wide(x: u16) -> usize
-    ensures { λ r. ⌜ (r ≡ x) × (r < 65536) ⌝ }
-{
-    x as usize
 }
 
 fn block_start(blocks: &[u16], k: usize) -> u16
@@ -66,10 +61,10 @@ fn orig_row_end(origs: &[u32], k: usize) -> u32
 fn ranges_overlap(a: u16, n: u16, b: u16, m: u16) -> bool
     ensures { λ r. ⌜ r ≡ rangesOverlap a n b m ⌝ }
 {
-    let from = wide(a);
-    let other_from = wide(b);
-    let end = from + wide(n);
-    let other_end = other_from + wide(m);
+    let from = wide16(a);
+    let other_from = wide16(b);
+    let end = from + wide16(n);
+    let other_end = other_from + wide16(m);
     (from < other_end) & (other_from < end)
 }
 
@@ -89,7 +84,7 @@ fn find_spot(blocks: &[u16], n: usize, start: u16, size: u16) -> Spot
         if start < other {
             return Spot::Free { row: k, at };
         }
-        at += wide(other_size);
+        at += wide16(other_size);
         k += 1;
     }
     Spot::Free { row: k, at }
@@ -153,7 +148,7 @@ fn insert_block(
     requires { ⌜ InsertAt (now blocks) (now origs) (now words) (now marks) n k at used size ⌝ }
     ensures { λ _. ⌜ InsertedAt (now (blocks .entry)) (now (origs .entry)) (now (words .entry)) (now (marks .entry)) (now (blocks .exit)) (now (origs .exit)) (now (words .exit)) (now (marks .exit)) n k at used start size from to ⌝ }
 {
-    let mid = used - wide(size);
+    let mid = used - wide16(size);
     row_in_u16(blocks, n, k, start, size);
     row_in_u32(origs, n, k, from, to);
     base_rotate::turn_u16(words, at, mid, used);

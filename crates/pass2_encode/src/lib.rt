@@ -1,4 +1,7 @@
 // The one word of an instruction or a .fill in pass two.
+use base_casts::narrow;
+use base_casts::word16;
+use base_casts::word32;
 use isa_fields::Replaced;
 use parse::Statement;
 use pass1_symbols::Row;
@@ -26,26 +29,6 @@ pub enum Worded {
         start: usize,
         end: usize,
     },
-}
-
-fn narrow(x: usize) -> u32
-    requires { ⌜ x ≤ 262144 ⌝ }
-    ensures { λ r. ⌜ r ≡ x ⌝ }
-{
-    x as u32
-}
-
-fn word16(x: u32) -> u16
-    requires { ⌜ x < 65536 ⌝ }
-    ensures { λ r. ⌜ r ≡ x ⌝ }
-{
-    x as u16
-}
-
-fn wide(x: u16) -> u32
-    ensures { λ r. ⌜ r ≡ x ⌝ }
-{
-    x as u32
 }
 
 // Cell j of row k.
@@ -86,7 +69,7 @@ fn offset_word(st: Statement, label: u16, next: u16) -> Worded
     if st.reach == parse_field::OFFSET9 {
         match isa_fields::replace_pc_offset9(label, next) {
             Replaced::Offset(d) => {
-                let bits = wide(d % VALUES9);
+                let bits = word32(d % VALUES9);
                 return Worded::Word(word16(st.bits + bits));
             }
             Replaced::OffsetNewErr => {
@@ -96,7 +79,7 @@ fn offset_word(st: Statement, label: u16, next: u16) -> Worded
     }
     match isa_fields::replace_pc_offset11(label, next) {
         Replaced::Offset(d) => {
-            let bits = wide(d % VALUES11);
+            let bits = word32(d % VALUES11);
             Worded::Word(word16(st.bits + bits))
         }
         Replaced::OffsetNewErr => refused(base_refusals::OFFSET_NEW_ERR, st),

@@ -1,11 +1,15 @@
 // A statement in pass two: its words behind those of the open block, an .orig, or an .end.
+use base_casts::narrow;
+use base_casts::wide;
+use base_casts::word16;
+use base_casts::word32;
 use parse::Statement;
 use parse_rows::Op;
 use pass2_blocks::Placing;
 use pass2_words::Written;
 ghost use mathlib.Core.Path.{_≡_};
 ghost use mathlib.Core.List.{List};
-ghost use Prim.Native.Nat.{ℕ, _+_, _≤_, _<_};
+ghost use Prim.Native.Nat.{ℕ, _+_, _<_};
 ghost use Rattle.rules.specs.Statements.{Stmt};
 ghost use Rattle.rules.specs.Passes.{emit, finish, written};
 ghost use Rattle.pass1_symbols.specs.Symbols.{symbols};
@@ -33,32 +37,6 @@ pub enum Pass2Step {
         start2: usize,
         end2: usize,
     },
-}
-
-fn wide(x: u32) -> usize
-    ensures { λ r. ⌜ r ≡ x ⌝ }
-{
-    x as usize
-}
-
-fn word32(x: u16) -> u32
-    ensures { λ r. ⌜ (r ≡ x) × (r < 65536) ⌝ }
-{
-    x as u32
-}
-
-fn narrow(x: usize) -> u32
-    requires { ⌜ x ≤ 262144 ⌝ }
-    ensures { λ r. ⌜ r ≡ x ⌝ }
-{
-    x as u32
-}
-
-fn word16(x: u32) -> u16
-    requires { ⌜ x < 65536 ⌝ }
-    ensures { λ r. ⌜ r ≡ x ⌝ }
-{
-    x as u16
 }
 
 // The state with so many words in use.

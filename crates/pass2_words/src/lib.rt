@@ -1,4 +1,6 @@
 // The words of a statement in pass two, each beside its mark, written behind those in use.
+use base_casts::wide;
+use base_casts::word8;
 use lex_literals::StringChar;
 use parse::Statement;
 use parse_rows::Op;
@@ -23,18 +25,6 @@ pub enum Written {
         start: usize,
         end: usize,
     },
-}
-
-fn wide(x: u8) -> u16
-    ensures { λ r. ⌜ r ≡ x ⌝ }
-{
-    x as u16
-}
-
-fn count(x: u32) -> usize
-    ensures { λ r. ⌜ r ≡ x ⌝ }
-{
-    x as usize
 }
 
 // A word behind those in use.
@@ -70,7 +60,7 @@ fn put_chars(src: &[u8], words: &mut [u16], marks: &mut [u8], used: usize, at: u
     loop {
         match lex_literals::string_char(src, i) {
             StringChar::Char { byte, next } => {
-                push(words, marks, k, wide(byte));
+                push(words, marks, k, word8(byte));
                 k += 1;
                 i = next;
             }
@@ -126,7 +116,7 @@ pub fn write_words(
             let answer = pass2_encode::fill_word(src, rows, n, st);
             put_answer(words, marks, used, answer)
         }
-        Op::Blkw => Written::Upto(used + count(st.bits)),
+        Op::Blkw => Written::Upto(used + wide(st.bits)),
         Op::Stringz => Written::Upto(put_string(src, words, marks, used, st.text_start)),
         Op::Orig => Written::Upto(used),
         Op::End => Written::Upto(used),

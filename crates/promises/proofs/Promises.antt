@@ -107,7 +107,7 @@ label-text-one-answer s start end r t = Lexer.label-text-one s start end
 pub first-refusal-one-answer : (s : List ℕ) (r t : Lexed) → meantLexed r ≡ verdict (lexed s) → meantLexed t ≡ verdict (lexed s) → r ≡ t
 first-refusal-one-answer = Lexer.first-refusal-one
 
--- THE CODE OF STATEMENTS, crates `labels` and `parse`. A statement's labels, walked one at a time by `next_label`, are exactly the rule's.
+-- THE CODE OF STATEMENTS, crates `parse_labels` and `parse`. A statement's labels, walked one at a time by `next_label`, are exactly the rule's.
 pub labels-one-by-one : (s : List ℕ) (at : ℕ) (n : Name) → nameAt s (pastLines s at) ≡ some n → labelsAt s at ≡ n ∷ labelsAt s (pastLabel s at)
 labels-one-by-one = Ahead.names-on
 
@@ -198,7 +198,7 @@ list-one-answer c b len r s x y = Call.one-answer
 pub list-one-buffer : (c : Counts) (b : Buffers) (len : ℕ) (r s : Listed) (x y : List ℕ) → Called c b len r x → Called c b len s y → x ≡ y
 list-one-buffer c b len r s x y = Call.one-buffer
 
--- THE CODE OF WORDS, crate `words`: an instruction's meaning is the rule's of the same name, and the contracts are the equations below.
+-- THE CODE OF WORDS, crates `isa` and `isa_fields`: an instruction's meaning is the rule's of the same name, and the contracts are the equations below.
 -- `encode`, then `try_disassemble_line`: the instruction, up to the names that share a word; and the other way round the word.
 pub encode-disassemble :
     (i : AsmInstr) (r : Encoded) (w : ℕ) (d : Disassembled) → r ≡ encoded (word (meant i)) → r ≡ Bits w → meantIf d ≡ disassemble w → Shown (meant i) (meantIf d)

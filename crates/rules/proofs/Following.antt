@@ -1,113 +1,42 @@
 -- Statements one after another: each goes on from its place and none past the source, so that the count of them shows nowhere. Assumes nothing.
 use Prim.Native.Nat.{ℕ, zero, suc, _+_, _-_, _≤_, _<_}
 use mathlib.Core.Path.{_≡_, refl, sym, _∙_, ap}
-use mathlib.Core.Bool.{Bool, true, false, _&&_}
+use mathlib.Core.Bool.{false}
 use mathlib.Core.List.{List, [], _∷_}
 use mathlib.Core.Option.{Option, none, some}
 use native.Mathlib.Omega.{arith}
-use lib.Dec.{eqb}
 use lib.ListN.{length}
-use Rattle.rules.specs.Base.{if_then_else_, Outcome, ok, refused, Refusal, refuse, require, _>>=_, Span}
+use Rattle.rules.specs.Base.{Outcome, ok, refused, Refusal, _>>=_}
 use Rattle.rules.specs.Tokens.{Token, Kind, number, register, mark, word, directive, text, nextToken}
-use Rattle.rules.specs.Words.{Field, Row, find, instructions, directives}
-use Rattle.rules.specs.Statements.{Name, Stmt, Piece, bits, target, chars, Given, bare, add, isMark, asWord, asDirective, need, operand, ends, tokenIs, pastLines, labelsAt, pastLabels, operandAt, commaAt, moreFrom, operandsFrom, lineEnd, Read, read, stmt, rowRead, instrRead, tokenRead, nextStatement, statementsFrom, statementsAt, GoesOn}
+use Rattle.rules.specs.Words.{Field, Row}
+use Rattle.rules.specs.Statements.{Name, Stmt, isMark, asWord, asDirective, pastLines, labelsAt, pastLabels, Read, stmt, tokenRead, nextStatement, statementsFrom, statementsAt, GoesOn}
+use Rattle.rules.specs.Passes.{Pass1State, stepOne, passOne}
 use Rattle.rules.proofs.Ahead.{token-ends, lines-ge, labels-ge}
 use Rattle.rules.proofs.Bools.{never}
-
--- a stage that gave something: what the stage before gave
-pub record Gave {A B : Type 0} (o : Outcome A) (f : A → Outcome B) (b : B) : Type 0 where
-  pub given′ : A
-  pub first : o ≡ ok given′
-  pub then′ : f given′ ≡ ok b
-
-pub gave : {A B : Type 0} (o : Outcome A) (f : A → Outcome B) (b : B) → (o >>= f) ≡ ok b → Gave o f b
-gave (ok a) f b e = record { given′ = a; first = refl; then′ = e }
-gave (refused r) f b e = never cc
+use Rattle.rules.proofs.Gave.{gave}
+use Rattle.rules.proofs.Inverted.{Headed, whole, alone, directed, inverted}
+use Rattle.rules.proofs.Along.{row-along}
 
 -- at j, not before i, inside n
 pub record Moved (n i j : ℕ) : Type 0 where
   pub on : i ≤ j
   pub in′ : j ≤ n
 
-add-stop : (g : Given) (p : Piece) (i : ℕ) → add g p i .stop ≡ i
-unfolding add
-add-stop g (bits n) i = refl
-add-stop g (target t) i = refl
-add-stop g (chars c q) i = refl
-
 module _ (s : List ℕ) where
-  token-moves : (i : ℕ) (t : Token) → i ≤ length s → nextToken s i ≡ ok t → Moved (length s) i (t .place .stop)
-  token-moves i t h e = let u = token-ends s i t e in record { on = u .least; in′ = u .inside h }
+  -- to j from an i inside
+  abbrev Goes : ℕ → ℕ → Type 0
+  Goes i j = i ≤ length s → Moved (length s) i j
 
-  operand-moves : (f : Field) (other : ℕ) (g h : Given) (i : ℕ) → i ≤ length s → operandAt s f other g i ≡ ok h → Moved (length s) i (h .stop)
-  unfolding operandAt
-  operand-moves f other g h i l e =
-      let u = gave (nextToken s i) _ h e in
-      let w = gave (operand f other (u .given′)) _ h (u .then′) in
-      let m = token-moves i (u .given′) l (u .first) in
-      let q : add g (w .given′) (u .given′ .place .stop) ≡ h = cc (w .then′) in
-      let r : h .stop ≡ u .given′ .place .stop = ap (λ (x : Given). x .stop) (sym q) ∙ add-stop g (w .given′) (u .given′ .place .stop) in
-      rw r m
+  on : (i j k : ℕ) → Goes i j → Goes j k → Goes i k
+  on i j k a b l = let p = a l in let q = b (p .in′) in record { on = omega (arith, p .on, q .on); in′ = q .in′ }
 
-  marked : (b : Bool) (n : ℕ) (p : Span) (i j : ℕ) → (require b n p >>= λ x. ok i) ≡ ok j → i ≡ j
-  marked true n p i j e = cc
-  marked false n p i j e = never cc
-
-  comma-moves : (i j : ℕ) → i ≤ length s → commaAt s i ≡ ok j → Moved (length s) i j
-  unfolding commaAt
-  comma-moves i j l e =
-      let u = gave (nextToken s i) _ j e in
-      rw (← marked (isMark 44 (u .given′ .kind)) 13 (u .given′ .place) (u .given′ .place .stop) j (u .then′)) (token-moves i (u .given′) l (u .first))
-
-  line-moves : (i j : ℕ) → i ≤ length s → lineEnd s i ≡ ok j → Moved (length s) i j
-  unfolding lineEnd
-  line-moves i j l e =
-      let u = gave (nextToken s i) _ j e in
-      rw (← marked (ends (u .given′ .kind)) 13 (u .given′ .place) (u .given′ .place .stop) j (u .then′)) (token-moves i (u .given′) l (u .first))
-
-  more-moves : (fs : List Field) (other : ℕ) (g h : Given) → g .stop ≤ length s → moreFrom s fs other g ≡ ok h → Moved (length s) (g .stop) (h .stop)
-  unfolding moreFrom
-  more-moves [] other g h l e = let q : g ≡ h = cc in rw (← q) (record { on = omega arith; in′ = l })
-  more-moves (f ∷ fs) other g h l e =
-      let u = gave (commaAt s (g .stop)) _ h e in
-      let w = gave (operandAt s f other g (u .given′)) _ h (u .then′) in
-      let a = comma-moves (g .stop) (u .given′) l (u .first) in
-      let b = operand-moves f other g (w .given′) (u .given′) (a .in′) (w .first) in
-      let c = more-moves fs other (w .given′) h (b .in′) (w .then′) in
-      record { on = omega (arith, a .on, b .on, c .on); in′ = c .in′ }
-
-  operands-moves : (fs : List Field) (other : ℕ) (g h : Given) → g .stop ≤ length s → operandsFrom s fs other g ≡ ok h → Moved (length s) (g .stop) (h .stop)
-  unfolding operandsFrom
-  operands-moves [] other g h l e = let q : g ≡ h = cc in rw (← q) (record { on = omega arith; in′ = l })
-  operands-moves (f ∷ fs) other g h l e =
-      let u = gave (operandAt s f other g (g .stop)) _ h e in
-      let a = operand-moves f other g (u .given′) (g .stop) l (u .first) in
-      let c = more-moves fs other (u .given′) h (a .in′) (u .then′) in
-      record { on = omega (arith, a .on, c .on); in′ = c .in′ }
-
-  row-moves : (ls : List Name) (r : Row) (t : Token) (fs : List Field) (other : ℕ) (x : Read) → t .place .stop ≤ length s → rowRead s ls r t fs other ≡ ok (some x) → Moved (length s) (t .place .stop) (x .next)
-  unfolding rowRead
-  row-moves ls r t fs other x l e =
-      let u = gave (operandsFrom s fs other (bare (r .base) (t .place .stop))) _ (some x) e in
-      let w = gave (lineEnd s (u .given′ .stop)) _ (some x) (u .then′) in
-      let a = operands-moves fs other (bare (r .base) (t .place .stop)) (u .given′) l (u .first) in
-      let b = line-moves (u .given′ .stop) (w .given′) (a .in′) (w .first) in
-      let q : read (stmt ls (r .op) (u .given′) (t .place .start)) (w .given′) ≡ x = cc (w .then′) in
-      let n : x .next ≡ w .given′ = ap (λ (y : Read). y .next) (sym q) in
-      rw n (record { on = omega (arith, a .on, b .on); in′ = b .in′ })
+  token-moves : (i : ℕ) (t : Token) → nextToken s i ≡ ok t → Goes i (t .place .stop)
+  token-moves i t e l = let u = token-ends s i t e in record { on = u .least; in′ = u .inside l }
 
   -- what begins a statement is no end of the source
   pub record Begun (t : Token) (x : Read) : Type 0 where
     pub real : isMark 0 (t .kind) ≡ false
-    pub moved : t .place .stop ≤ length s → Moved (length s) (t .place .stop) (x .next)
-
-  instr-begun : (ls : List Name) (r : Row) (t : Token) (x : Read) → instrRead s ls r t ≡ ok (some x) → t .place .stop ≤ length s → Moved (length s) (t .place .stop) (x .next)
-  unfolding instrRead if_then_else_
-  instr-begun ls r t x e l = go (eqb (r .base) 0) e
-    where
-      go : (b : Bool) → (if b then rowRead s ls r t (if tokenIs ends s (t .place .stop) then [] else r .fields) 13 else rowRead s ls r t (r .fields) 14) ≡ ok (some x) → Moved (length s) (t .place .stop) (x .next)
-      go true q = row-moves ls r t (if tokenIs ends s (t .place .stop) then [] else r .fields) 13 x l q
-      go false q = row-moves ls r t (r .fields) 14 x l q
+    pub moved : Goes (t .place .stop) (x .next)
 
   -- a token by what it is to a statement
   kind-real : (k : Kind) (w : List ℕ) → asWord k ≡ some w → isMark 0 k ≡ false
@@ -129,37 +58,14 @@ module _ (s : List ℕ) where
   kind-dot (text t) w e = refl
 
   token-begun : (ls : List Name) (t : Token) (x : Read) → tokenRead s ls t ≡ ok (some x) → Begun t x
-  unfolding tokenRead need if_then_else_
-  token-begun ls t x e = by-dot (asDirective (t .kind)) refl e
+  token-begun ls t x e =
+      let r = inverted s ls t (some x) e in
+      record { real = go (r .row) (r .fields) (r .headed); moved = row-along s Goes (λ i l. record { on = omega arith; in′ = l }) on token-moves ls t x r }
     where
-      by-row : (d : List ℕ) → asDirective (t .kind) ≡ some d → (o : Option Row) → need o 13 (t .place) (λ r. rowRead s ls r t (r .fields) 14) ≡ ok (some x) → Begun t x
-      by-row d q none h = never cc
-      by-row d q (some r) h = record { real = kind-dot (t .kind) d q; moved = λ l. row-moves ls r t (r .fields) 14 x l h }
-
-      by-find : (w : List ℕ) → asWord (t .kind) ≡ some w → (o : Option Row) → _≡_ {A = Outcome (Option Read)} (elim o [ some r ↦ instrRead s ls r t | none ↦ refuse 16 (t .place) ]) (ok (some x)) → Begun t x
-      by-find w q none h = never cc
-      by-find w q (some r) h = record { real = kind-real (t .kind) w q; moved = λ l. instr-begun ls r t x h l }
-
-      by-end : (b : Bool) → (if b then ok none else refuse 13 (t .place)) ≡ ok (some x) → Begun t x
-      by-end true h = never cc
-      by-end false h = never cc
-
-      by-word : (o : Option (List ℕ)) → asWord (t .kind) ≡ o → _≡_ {A = Outcome (Option Read)} (elim o [
-        | some w ↦ elim (find w instructions) [ some r ↦ instrRead s ls r t | none ↦ refuse 16 (t .place) ]
-        | none ↦ if isMark 0 (t .kind) && eqb (length ls) 0 then ok none else refuse 13 (t .place)
-      ]) (ok (some x)) → Begun t x
-      by-word none q h = by-end (isMark 0 (t .kind) && eqb (length ls) 0) h
-      by-word (some w) q h = by-find w q (find w instructions) h
-
-      by-dot : (o : Option (List ℕ)) → asDirective (t .kind) ≡ o → _≡_ {A = Outcome (Option Read)} (elim o [
-        | some d ↦ need (find d directives) 13 (t .place) (λ r. rowRead s ls r t (r .fields) 14)
-        | none ↦ elim (asWord (t .kind)) [
-          | some w ↦ elim (find w instructions) [ some r ↦ instrRead s ls r t | none ↦ refuse 16 (t .place) ]
-          | none ↦ if isMark 0 (t .kind) && eqb (length ls) 0 then ok none else refuse 13 (t .place)
-        ]
-      ]) (ok (some x)) → Begun t x
-      by-dot none q h = by-word (asWord (t .kind)) refl h
-      by-dot (some d) q h = by-row d q (find d directives) h
+      go : (r : Row) (fs : List Field) → Headed s ls t r fs → isMark 0 (t .kind) ≡ false
+      go r fs (whole w a f q) = kind-real (t .kind) w a
+      go r fs (alone w a f q) = kind-real (t .kind) w a
+      go r fs (directed d a f q) = kind-dot (t .kind) d a
 
   -- A STATEMENT GOES ON, AND NOT PAST THE SOURCE
   pub statement-goes : (i : ℕ) (x : Read) → nextStatement s i ≡ ok (some x) → GoesOn s i x
@@ -210,3 +116,8 @@ module _ (s : List ℕ) where
   pub statements-refused : (i : ℕ) (r : Refusal) → nextStatement s i ≡ refused r → statementsAt s i ≡ refused r
   unfolding statementsAt
   statements-refused i r e = let z : length s - i + 1 ≡ suc (length s - i) = omega arith in rw z (from-step (length s - i) i ∙ rw e)
+
+-- PASS ONE, statement after statement
+pub passOne-step : (s : Stmt) (ss : List Stmt) (o : Pass1State) → passOne (s ∷ ss) o ≡ (stepOne s o >>= passOne ss)
+unfolding passOne
+passOne-step s ss o = refl

@@ -27,10 +27,15 @@ pub mod Plain
 pub mod Named
 pub mod GoodNames
 pub mod Fields
+pub mod Instructions
 pub mod Disassembly
 pub mod Walking
 pub mod Ahead
+pub mod Gave
+pub mod Inverted
+pub mod Along
 pub mod Following
 pub mod Walk
 pub mod Calls
 pub mod Pinned
+pub mod Halving

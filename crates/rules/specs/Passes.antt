@@ -141,14 +141,19 @@ advanced n p o = elim (o .cursor) [
       else refuse 26 p
 ]
 
+-- one statement: labels at the counter, then directive, then advance
+unfoldable pub stepOne : Stmt → Pass1State → Outcome Pass1State
+stepOne s o = do
+  a ← labelled (s .labels) (s .place) o
+  b ← directed (s .op) s a
+  advanced (wordLen (s .op) s) (s .place) b
+
 -- inside a stage the first met in the source, 22 at its end
 unfoldable pub passOne : List Stmt → Pass1State → Outcome Pass1State
 passOne [] o = elim (o .cursor) [ none ↦ ok o | some c ↦ refuse 22 (c .place) ]
 passOne (s ∷ ss) o = do
-  a ← labelled (s .labels) (s .place) o
-  b ← directed (s .op) s a
-  c ← advanced (wordLen (s .op) s) (s .place) b
-  passOne ss c
+  o′ ← stepOne s o
+  passOne ss o′
 
 -- PASS TWO
 
@@ -276,5 +281,5 @@ assemble room source = do
   ok (object (map (λ b. (b .start, b .words)) (t .blocks)) (mapT (λ n s. s .lab) (o .symbols)) (o .relocs))
 
 unfoldable pub assembling : Unit {0}
-unfolding wordLen addLabel addLabels labelled relocated filled closed directed advanced passOne address offset fits reach field offsetTo wordsOf rangesOverlap overlapping place emit finish written passTwo assemble
+unfolding wordLen addLabel addLabels labelled relocated filled closed directed advanced stepOne passOne address offset fits reach field offsetTo wordsOf rangesOverlap overlapping place emit finish written passTwo assemble
 assembling = tt

@@ -276,7 +276,7 @@ rowRead s ls r t fs other = do
 -- NOP's operand may be left out and is then 0; a wrong token there is 13.
 unfoldable pub instrRead : List ℕ → List Name → Row → Token → Outcome (Option Read)
 instrRead s ls r t =
-    if eqb (r .base) 0 then rowRead s ls r t (if tokenIs ends s (t .place .stop) then [] else r .fields) 13
+    if r .optional then rowRead s ls r t (if tokenIs ends s (t .place .stop) then [] else r .fields) 13
     else rowRead s ls r t (r .fields) 14
 
 -- Every other misplaced token, an unknown directive, and labels with nothing after them: 13. Directives in any case: the token's text is in upper case.

@@ -28,7 +28,7 @@ fn lacking_at(data: &[u8], at: usize) -> Lacking {
 }
 
 // The low sixteen bits.
-fn narrow(n: usize) -> u16 {
+fn low16(n: usize) -> u16 {
     (n % 65536) as u16
 }
 
@@ -43,7 +43,7 @@ fn expected_at(data: &[u8], at: usize) -> Expected {
     let h = test_support::decimal(data, g.next);
     let i = test_support::decimal(data, h.next);
     let answer = Answer {
-        number: narrow(a.value),
+        number: low16(a.value),
         start: b.value,
         end: c.value,
         start2: d.value,

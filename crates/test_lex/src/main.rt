@@ -1,4 +1,6 @@
 // Replays token vectors against the lexer, writes those that differ, and at the end how many were replayed.
+use base_casts::wide8;
+use base_casts::word8;
 use lex_literals::StringChar;
 use lex_reserved::Ident;
 use lex_source::Lexed;
@@ -25,18 +27,10 @@ struct Sum {
     two: u16,
 }
 
-fn wide(b: u8) -> usize {
-    b as usize
-}
-
-fn two_wide(b: u8) -> u16 {
-    b as u16
-}
-
 // Two bytes of the data, the low one first.
 fn two_at(data: &[u8], at: usize) -> usize {
-    wide(base_text::byte_at(data, at))
-        | (wide(base_text::byte_at(data, wrapping_add_usize(at, 1))) << 8)
+    wide8(base_text::byte_at(data, at))
+        | (wide8(base_text::byte_at(data, wrapping_add_usize(at, 1))) << 8)
 }
 
 fn four_at(data: &[u8], at: usize) -> usize {
@@ -44,8 +38,8 @@ fn four_at(data: &[u8], at: usize) -> usize {
 }
 
 fn value_at(data: &[u8], at: usize) -> u16 {
-    two_wide(base_text::byte_at(data, at))
-        | (two_wide(base_text::byte_at(data, wrapping_add_usize(at, 1))) << 8)
+    word8(base_text::byte_at(data, at))
+        | (word8(base_text::byte_at(data, wrapping_add_usize(at, 1))) << 8)
 }
 
 // A row of the data.
@@ -70,7 +64,7 @@ fn same_row(a: Row, b: Row) -> bool {
 }
 
 fn added(s: Sum, b: u8) -> Sum {
-    let one = wrapping_add_u16(s.one, two_wide(b));
+    let one = wrapping_add_u16(s.one, word8(b));
     Sum {
         count: wrapping_add_usize(s.count, 1),
         one,
@@ -143,7 +137,7 @@ fn text_row(sort: u8, value: u16, start: usize, end: usize, text: Sum) -> Row {
 fn ident_row(src: &[u8], ident: Ident, start: usize, end: usize) -> Row {
     let text = text_sum(lex::label_text(src, start, end));
     match ident {
-        Ident::Reserved(code) => text_row(4, two_wide(code), start, end, text),
+        Ident::Reserved(code) => text_row(4, word8(code), start, end, text),
         Ident::Label => text_row(5, 0, start, end, text),
     }
 }
@@ -153,7 +147,7 @@ fn token_row(src: &[u8], token: Token, start: usize, end: usize) -> Row {
     match token {
         Token::Unsigned(n) => plain_row(1, n, start, end),
         Token::Signed(n) => plain_row(2, n, start, end),
-        Token::Reg(n) => plain_row(3, two_wide(n), start, end),
+        Token::Reg(n) => plain_row(3, word8(n), start, end),
         Token::Ident(ident) => ident_row(src, ident, start, end),
         Token::Directive => text_row(6, 0, start, end, text_sum(lex::label_text(src, next, end))),
         Token::String => text_row(7, 0, start, end, string_sum(src, next)),

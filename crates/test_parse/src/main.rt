@@ -1,4 +1,5 @@
 // Replays statement vectors against the statement reader, writes those that differ, and at the end how many were replayed.
+use base_casts::wide16;
 use libc::STDOUT_FILENO;
 use parse::Statements;
 
@@ -7,10 +8,6 @@ struct Answer {
     number: usize,
     start: usize,
     end: usize,
-}
-
-fn two_wide(n: u16) -> usize {
-    n as usize
 }
 
 // The first refusal of a source.
@@ -22,7 +19,7 @@ fn answer_of(src: &[u8]) -> Answer {
             end: 0,
         },
         Statements::Refused { number, start, end } => Answer {
-            number: two_wide(number),
+            number: wide16(number),
             start,
             end,
         },

@@ -1,4 +1,5 @@
 // What the programs that replay vectors share: fields of a line of text read, a source written, and a difference told.
+use base_casts::wide8;
 use base_text::Class;
 use libc::STDOUT_FILENO;
 use std::num::wrapping_add_usize;
@@ -16,10 +17,6 @@ pub struct Part {
     pub next: usize,
 }
 
-fn wide(b: u8) -> usize {
-    b as usize
-}
-
 fn ten_times(n: usize) -> usize {
     wrapping_add_usize(n << 3, n << 1)
 }
@@ -31,7 +28,7 @@ pub fn decimal(data: &[u8], at: usize) -> Taken {
     while i < data.len() {
         let digit = base_text::digit_value(data[i]);
         if digit < 10 {
-            value = wrapping_add_usize(ten_times(value), wide(digit));
+            value = wrapping_add_usize(ten_times(value), wide8(digit));
             i += 1;
         } else {
             return Taken { value, next: i + 1 };

@@ -2,9 +2,8 @@
 use asm::Answer;
 use object::Counts;
 
-fn wide(n: u16) -> usize {
-    n as usize
-}
+// How many words the program's object may have.
+const WORDS: usize = 32768;
 
 // The counts of an accepted object.
 fn counts_of(answer: Answer) -> Counts {
@@ -20,7 +19,7 @@ fn counts_of(answer: Answer) -> Counts {
 fn print_refused(src: &[u8], answer: Answer) {
     view_refusal::print_refusal(
         src,
-        wide(answer.number),
+        answer.number,
         answer.start,
         answer.end,
         answer.start2,
@@ -30,17 +29,17 @@ fn print_refused(src: &[u8], answer: Answer) {
 
 // A source that the program does not hold.
 pub fn print_too_long() {
-    view_refusal::print_placeless(11);
+    view_refusal::print_placeless(base_refusals::SOURCE_TOO_LONG);
 }
 
-// A source in the program's 32,768 words.
+// A source in the program's words.
 pub fn print_source(src: &[u8]) {
-    let mut blocks = [0u16; 128];
-    let mut words = [0u16; 32768];
-    let mut marks = [0u8; 32768];
-    let mut labels = [0u32; 4096];
-    let mut relocations = [0u32; 2048];
-    let mut names = [0u8; 65536];
+    let mut blocks = [0u16; object::BLOCK_ROOM];
+    let mut words = [0u16; WORDS];
+    let mut marks = [0u8; WORDS];
+    let mut labels = [0u32; object::LABEL_ROOM];
+    let mut relocations = [0u32; object::RELOCATION_ROOM];
+    let mut names = [0u8; object::NAME_ROOM];
     let answer = asm::assemble(
         src,
         &mut blocks,

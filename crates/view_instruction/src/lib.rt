@@ -1,4 +1,5 @@
 // A word's instruction as a line of assembly language, and the address that it reaches.
+use base_casts::long16;
 use isa::AsmInstr;
 use isa::ImmOrReg;
 use isa::disassembly::Line;
@@ -12,28 +13,30 @@ pub enum Reach {
     Nothing,
 }
 
-fn wide(n: u16) -> u64 {
-    n as u64
-}
+// How many registers there are.
+const REGISTERS: u16 = 8;
 
 // The digit of a register.
 fn reg_digit(r: u16) -> u8 {
-    48 + (r % 8) as u8
+    b'0' + (r % REGISTERS) as u8
 }
 
 fn put_reg(out: &mut [u8], at: usize, r: u16) -> usize {
-    let next = put_byte(out, at, 82);
+    let next = put_byte(out, at, b'R');
     put_byte(out, next, reg_digit(r))
 }
 
+// The first word that is negative as a signed number.
+const SIGN: u16 = 32768;
+
 // A signed number in decimal.
 fn put_signed(out: &mut [u8], at: usize, d: u16) -> usize {
-    if d < 32768 {
+    if d < SIGN {
         let next = put(out, at, b"#");
-        return view_text::put_decimal(out, next, wide(d));
+        return view_text::put_decimal(out, next, long16(d));
     }
     let next = put(out, at, b"#-");
-    view_text::put_decimal(out, next, wide(wrapping_sub_u16(0, d)))
+    view_text::put_decimal(out, next, long16(wrapping_sub_u16(0, d)))
 }
 
 // The last operand of ADD and AND.
@@ -90,12 +93,17 @@ fn put_flag(out: &mut [u8], at: usize, set: bool, letter: u8) -> usize {
     at
 }
 
+// The flags n and z as bits; p is the last bit.
+const FLAG_N: u16 = 4;
+
+const FLAG_Z: u16 = 2;
+
 // BR with its flags.
 fn put_branch(out: &mut [u8], at: usize, nzp: u16, d: u16) -> usize {
     let a = put(out, at, b"BR");
-    let b = put_flag(out, a, nzp / 4 % 2 == 1, 110);
-    let c = put_flag(out, b, nzp / 2 % 2 == 1, 122);
-    let e = put_flag(out, c, nzp % 2 == 1, 112);
+    let b = put_flag(out, a, nzp / FLAG_N % 2 == 1, b'n');
+    let c = put_flag(out, b, nzp / FLAG_Z % 2 == 1, b'z');
+    let e = put_flag(out, c, nzp % 2 == 1, b'p');
     put_far(out, e, b" ", d)
 }
 

@@ -1,4 +1,11 @@
 // An object as a person sees it on a terminal: what it has, its blocks with each word beside its label and its disassembly, and the labels at no word.
+use base_capacities::ADDRESSES;
+use base_capacities::BLOCK_LENGTH;
+use base_capacities::RELOCATION_LABEL;
+use base_capacities::UNSET;
+use base_casts::long;
+use base_casts::wide;
+use base_casts::wide16;
 use object::Counts;
 use std::num::wrapping_add_u16;
 use std::num::wrapping_add_usize;
@@ -8,23 +15,19 @@ use view_text::put;
 use view_text::put_byte;
 use view_text::put_count;
 use view_text::put_hex;
+use view_word::LABEL_SHIFT;
+use view_word::RELOCATION_SHIFT;
 use view_word::cell_at;
 
-fn wide(n: usize) -> u64 {
-    n as u64
-}
+// A block's row begins at its number shifted so far.
+const BLOCK_SHIFT: usize = 1;
 
-fn wide16(n: u16) -> usize {
-    n as usize
-}
-
-fn row_of(n: u32) -> usize {
-    n as usize
-}
+// Room for a line.
+const LINE_BYTES: usize = 128;
 
 // The low sixteen bits.
-fn narrow(n: u32) -> u16 {
-    (n % 65536) as u16
+fn low16(n: u32) -> u16 {
+    (n % ADDRESSES) as u16
 }
 
 // The number at a place; 0 past the end.
@@ -37,28 +40,28 @@ fn word_at(words: &[u16], i: usize) -> u16 {
 
 // What an object has.
 fn print_heading(c: Counts) {
-    let mut out = [0u8; 128];
+    let mut out = [0u8; LINE_BYTES];
     let a = put(&mut out, 0, b"ACCEPTED: ");
-    let b = put_count(&mut out, a, wide(c.blocks), b"block");
+    let b = put_count(&mut out, a, long(c.blocks), b"block");
     let d = put(&mut out, b, b", ");
-    let e = put_count(&mut out, d, wide(c.words), b"word");
+    let e = put_count(&mut out, d, long(c.words), b"word");
     let f = put(&mut out, e, b", ");
-    let g = put_count(&mut out, f, wide(c.labels), b"label");
+    let g = put_count(&mut out, f, long(c.labels), b"label");
     let h = put(&mut out, g, b", ");
-    let i = put_count(&mut out, h, wide(c.relocations), b"relocation");
+    let i = put_count(&mut out, h, long(c.relocations), b"relocation");
     print_line(&mut out, i);
 }
 
 // The line above a block, after an empty one.
 fn print_block_heading(start: u16, size: u16) {
-    let mut out = [0u8; 128];
+    let mut out = [0u8; LINE_BYTES];
     let a = put(&mut out, 0, b"\nBLOCK ");
     let b = put_hex(&mut out, a, start);
     let c = put(&mut out, b, b" to ");
     let last = wrapping_sub_u16(wrapping_add_u16(start, size), 1);
     let d = put_hex(&mut out, c, last);
     let e = put(&mut out, d, b", ");
-    let f = put_count(&mut out, e, wide(wide16(size)), b"word");
+    let f = put_count(&mut out, e, long(wide16(size)), b"word");
     print_line(&mut out, f);
 }
 
@@ -74,13 +77,16 @@ fn print_word(
 ) {
     let n = c.labels;
     let k = view_word::print_labels(labels, names, n, address);
-    if mark == 0 {
+    if mark == UNSET {
         view_word::print_unset(labels, names, k, n, address);
         return;
     }
     let row = view_word::relocation_row(relocations, c.relocations, address);
     if row < c.relocations {
-        let external = row_of(cell_at(relocations, wrapping_add_usize(row << 1, 1)));
+        let external = wide(cell_at(
+            relocations,
+            wrapping_add_usize(row << RELOCATION_SHIFT, RELOCATION_LABEL),
+        ));
         view_word::print_waiting(labels, names, k, n, address, external);
         return;
     }
@@ -131,8 +137,8 @@ fn print_blocks(
     let mut k = 0;
     let mut first = 0;
     while k < n {
-        let start = word_at(blocks, k << 1);
-        let size = word_at(blocks, wrapping_add_usize(k << 1, 1));
+        let start = word_at(blocks, k << BLOCK_SHIFT);
+        let size = word_at(blocks, wrapping_add_usize(k << BLOCK_SHIFT, BLOCK_LENGTH));
         print_block(
             c,
             words,
@@ -153,8 +159,8 @@ fn print_blocks(
 fn has_word(blocks: &[u16], n: usize, address: u16) -> bool {
     let mut k = 0;
     while k < n {
-        let start = word_at(blocks, k << 1);
-        let size = word_at(blocks, wrapping_add_usize(k << 1, 1));
+        let start = word_at(blocks, k << BLOCK_SHIFT);
+        let size = word_at(blocks, wrapping_add_usize(k << BLOCK_SHIFT, BLOCK_LENGTH));
         if wrapping_sub_u16(address, start) < size {
             return true;
         }
@@ -166,14 +172,14 @@ fn has_word(blocks: &[u16], n: usize, address: u16) -> bool {
 // An empty line before the first of some.
 fn put_gap(out: &mut [u8], first: bool) -> usize {
     if first {
-        return put_byte(out, 0, 10);
+        return put_byte(out, 0, b'\n');
     }
     0
 }
 
 // The line of an external label.
 fn print_external(labels: &[u32], names: &[u8], k: usize, first: bool) {
-    let mut out = [0u8; 128];
+    let mut out = [0u8; LINE_BYTES];
     let a = put_gap(&mut out, first);
     let b = put(&mut out, a, b"EXTERNAL ");
     let c = put(&mut out, b, object::label_name(labels, names, k));
@@ -182,11 +188,11 @@ fn print_external(labels: &[u32], names: &[u8], k: usize, first: bool) {
 
 // The line of a label that is defined where no word is, as behind a block's last word.
 fn print_bare(labels: &[u32], names: &[u8], k: usize, address: u16, first: bool) {
-    let mut out = [0u8; 128];
+    let mut out = [0u8; LINE_BYTES];
     let a = put_gap(&mut out, first);
     let b = put(&mut out, a, b"LABEL ");
     let c = put_hex(&mut out, b, address);
-    let d = put_byte(&mut out, c, 32);
+    let d = put_byte(&mut out, c, b' ');
     let e = put(&mut out, d, object::label_name(labels, names, k));
     let f = put(&mut out, e, b", where no word is");
     print_line(&mut out, f);
@@ -202,7 +208,7 @@ fn print_apart(
     first: bool,
 ) -> bool {
     if view_word::is_defined(labels, k) {
-        let address = narrow(cell_at(labels, k << 2));
+        let address = low16(cell_at(labels, k << LABEL_SHIFT));
         if has_word(blocks, n, address) {
             return first;
         }

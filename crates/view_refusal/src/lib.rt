@@ -1,4 +1,7 @@
 // A refusal as a person sees it on a terminal: its number and name, what it means in this program, and each of its places with the line underlined.
+use base_casts::long;
+use base_casts::long16;
+use base_casts::wide16;
 use base_text::Class;
 use libc::STDOUT_FILENO;
 use std::num::wrapping_add_usize;
@@ -7,14 +10,15 @@ use view_text::put;
 use view_text::put_byte;
 use view_text::put_decimal;
 
+// Room for a source's line, and for a line above one.
+const LINE_BYTES: usize = 256;
+
+const HEADING_BYTES: usize = 128;
+
 // A part of a line that is shown, from one place of the source up to another.
 struct Window {
     from: usize,
     to: usize,
-}
-
-fn wide(n: usize) -> u64 {
-    n as u64
 }
 
 fn least(a: usize, b: usize) -> usize {
@@ -39,29 +43,32 @@ fn distance(a: usize, b: usize) -> usize {
     b - a
 }
 
+// The byte behind the last character that is shown.
+const DEL: u8 = 127;
+
 // A byte as it is shown: in one column, but for a tab.
 fn shown(b: u8) -> u8 {
-    if b == 9 {
-        return 9;
+    if b == b'\t' {
+        return b'\t';
     }
-    if b < 32 {
-        return 63;
+    if b < b' ' {
+        return b'?';
     }
-    if b < 127 {
+    if b < DEL {
         return b;
     }
-    63
+    b'?'
 }
 
 // What stands under a byte: a tab under a tab, so that both lines keep step, a caret inside the place, a space before it.
 fn mark(b: u8, inside: bool) -> u8 {
-    if b == 9 {
-        return 9;
+    if b == b'\t' {
+        return b'\t';
     }
     if inside {
-        return 94;
+        return b'^';
     }
-    32
+    b' '
 }
 
 // The bytes of a window.
@@ -99,7 +106,7 @@ fn line_end(src: &[u8], first: usize) -> usize {
     if first < end {
         let before = end - 1;
         if end < src.len() {
-            if base_text::byte_at(src, before) == 13 {
+            if base_text::byte_at(src, before) == b'\r' {
                 return before;
             }
         }
@@ -107,18 +114,23 @@ fn line_end(src: &[u8], first: usize) -> usize {
     end
 }
 
+// How much of a long line is shown, and how much of it before the place at most.
+const SHOWN_BYTES: usize = 100;
+
+const BEFORE_PLACE: usize = 60;
+
 // What is shown of a line: all of it, or a hundred bytes with the place's start among them.
 fn window_of(first: usize, last: usize, start: usize) -> Window {
-    if distance(first, last) <= 100 {
+    if distance(first, last) <= SHOWN_BYTES {
         return Window {
             from: first,
             to: last,
         };
     }
-    let from = wrapping_add_usize(first, distance(60, distance(first, start)));
+    let from = wrapping_add_usize(first, distance(BEFORE_PLACE, distance(first, start)));
     Window {
         from,
-        to: least(last, wrapping_add_usize(from, 100)),
+        to: least(last, wrapping_add_usize(from, SHOWN_BYTES)),
     }
 }
 
@@ -132,7 +144,7 @@ fn put_front(out: &mut [u8], dots: bool) -> usize {
 
 // The line of a place, and carets under the place: one at least, and none behind what is shown.
 fn print_underlined(src: &[u8], first: usize, last: usize, start: usize, end: usize) {
-    let mut out = [0u8; 256];
+    let mut out = [0u8; LINE_BYTES];
     let w = window_of(first, last, start);
     let cut = first < w.from;
     let front = put_front(&mut out, cut);
@@ -153,7 +165,7 @@ fn print_underlined(src: &[u8], first: usize, last: usize, start: usize, end: us
 }
 
 fn print_marks(src: &[u8], from: usize, start: usize, stop: usize, cut: bool) {
-    let mut out = [0u8; 256];
+    let mut out = [0u8; LINE_BYTES];
     let dots = put(&mut out, 0, b"    ");
     if cut {
         let front = put(&mut out, dots, b"   ");
@@ -178,12 +190,12 @@ fn put_end(out: &mut [u8], at: usize, start: usize, last: usize, size: usize) ->
 
 // The line and column of a place, after a word; its line ends at `last`, and the source has so many bytes.
 fn print_where(word: &[u8], feeds: usize, since: usize, start: usize, last: usize, size: usize) {
-    let mut out = [0u8; 128];
+    let mut out = [0u8; HEADING_BYTES];
     let a = put(&mut out, 0, word);
     let b = put(&mut out, a, b"line ");
-    let c = put_decimal(&mut out, b, wide(wrapping_add_usize(feeds, 1)));
+    let c = put_decimal(&mut out, b, long(wrapping_add_usize(feeds, 1)));
     let d = put(&mut out, c, b", column ");
-    let e = put_decimal(&mut out, d, wide(wrapping_add_usize(since, 1)));
+    let e = put_decimal(&mut out, d, long(wrapping_add_usize(since, 1)));
     let f = put_end(&mut out, e, start, last, size);
     print_line(&mut out, f);
 }
@@ -205,67 +217,77 @@ fn say(text: &[u8]) {
 }
 
 // What a refusal of a token means.
-fn say_token(number: usize) {
+fn say_token(number: u16) {
     match number {
-        1 => say(b": a number above 65535"),
-        2 => say(b": a number below -32768"),
-        3 => say(b": a digit that is not hexadecimal"),
-        4 => say(b": a digit that is not decimal"),
-        5 => say(b": a hexadecimal number without digits"),
-        6 => say(b": a decimal number without digits"),
-        7 => say(b": a string that is not closed on its line"),
-        8 => say(b": a string of more than 65,534 characters"),
-        9 => say(b": no such register, they are R0 to R7"),
-        10 => say(b": a character that begins no token"),
-        11 => say(b": the source is longer than 65,536 bytes"),
-        12 => say(b": a byte that is not ASCII"),
+        base_refusals::DOES_NOT_FIT_U16 => say(b": a number above 65535"),
+        base_refusals::DOES_NOT_FIT_I16 => say(b": a number below -32768"),
+        base_refusals::INVALID_HEX => say(b": a digit that is not hexadecimal"),
+        base_refusals::INVALID_NUMERIC => say(b": a digit that is not decimal"),
+        base_refusals::INVALID_HEX_EMPTY => say(b": a hexadecimal number without digits"),
+        base_refusals::INVALID_DEC_EMPTY => say(b": a decimal number without digits"),
+        base_refusals::UNCLOSED_STR_LIT => say(b": a string that is not closed on its line"),
+        base_refusals::STR_LIT_TOO_BIG => say(b": a string of more than 65,534 characters"),
+        base_refusals::INVALID_REG => say(b": no such register, they are R0 to R7"),
+        base_refusals::INVALID_SYMBOL => say(b": a character that begins no token"),
+        base_refusals::SOURCE_TOO_LONG => say(b": the source is longer than 65,536 bytes"),
+        base_refusals::NON_ASCII => say(b": a byte that is not ASCII"),
         _ => say_statement(number),
     }
 }
 
 // What a refusal of a statement or of a capacity means.
-fn say_statement(number: usize) {
+fn say_statement(number: u16) {
     match number {
-        13 => say(b": this cannot stand here"),
-        14 => say(b": the operand that is due here is missing or of another kind"),
-        15 => say(b": a number that does not fit this operand"),
-        16 => say(b": a name of more than 64 characters"),
-        40 => say(b": more than 1,024 labels, 1,024 relocations or 64 blocks"),
-        41 => say(b": more than 32,768 words"),
-        42 => say(b": a lent buffer is too short"),
+        base_refusals::BAD_STATEMENT => say(b": this cannot stand here"),
+        base_refusals::BAD_OPERAND => say(
+            b": the operand that is due here is missing or of another kind",
+        ),
+        base_refusals::OPERAND_RANGE => say(b": a number that does not fit this operand"),
+        base_refusals::NAME_TOO_LONG => say(b": a name of more than 64 characters"),
+        base_refusals::TABLE_FULL => say(
+            b": more than 1,024 labels, 1,024 relocations or 64 blocks",
+        ),
+        base_refusals::NO_ROOM => say(b": more than 32,768 words"),
+        base_refusals::SHORT_BUFFER => say(b": a lent buffer is too short"),
         _ => say_pass(number),
     }
 }
 
 // What a refusal of the passes means.
-fn say_pass(number: usize) {
+fn say_pass(number: u16) {
     match number {
-        20 => say(b": a label outside .orig and .end has no address"),
-        21 => say(b": a statement outside .orig and .end has no address"),
-        22 => say(b": an .orig without its .end"),
-        23 => say(b": an .end without its .orig"),
-        24 => say(b": an .orig inside a block"),
-        25 => say(b": one label at two addresses"),
-        26 => say(b": the block runs past xFFFF"),
-        27 => say(b": the block runs into the addresses of devices, xFE00 and above"),
-        28 => say(b": two blocks share an address"),
-        29 => say(b": the label is too far away for this instruction"),
-        30 => say(b": an external label has no address here, so there is no offset to it"),
-        31 => say(b": no label has this name"),
+        base_refusals::UNDET_ADDR_LABEL => say(b": a label outside .orig and .end has no address"),
+        base_refusals::UNDET_ADDR_STMT => say(
+            b": a statement outside .orig and .end has no address",
+        ),
+        base_refusals::UNCLOSED_ORIG => say(b": an .orig without its .end"),
+        base_refusals::UNOPENED_ORIG => say(b": an .end without its .orig"),
+        base_refusals::OVERLAPPING_ORIG => say(b": an .orig inside a block"),
+        base_refusals::OVERLAPPING_LABELS => say(b": one label at two addresses"),
+        base_refusals::WRAPPING_BLOCK => say(b": the block runs past xFFFF"),
+        base_refusals::BLOCK_IN_IO => say(
+            b": the block runs into the addresses of devices, xFE00 and above",
+        ),
+        base_refusals::OVERLAPPING_BLOCKS => say(b": two blocks share an address"),
+        base_refusals::OFFSET_NEW_ERR => say(b": the label is too far away for this instruction"),
+        base_refusals::OFFSET_EXTERNAL => say(
+            b": an external label has no address here, so there is no offset to it",
+        ),
+        base_refusals::COULD_NOT_FIND_LABEL => say(b": no label has this name"),
         _ => {}
     }
 }
 
 // The number, the name and what they mean.
-fn print_heading(number: usize) {
-    let mut out = [0u8; 128];
-    let name = view_places::refusal_name(number);
+fn print_heading(number: u16) {
+    let mut out = [0u8; HEADING_BYTES];
+    let name = view_places::refusal_name(wide16(number));
     let size = base_text::run_end(&name, 0, Class::Word);
     let a = put(&mut out, 0, b"REFUSED ");
-    let b = put_decimal(&mut out, a, wide(number));
+    let b = put_decimal(&mut out, a, long16(number));
     let c = put(&mut out, b, b" ");
     let d = put_shown(&mut out, c, &name, 0, size);
-    if d <= 128 {
+    if d <= HEADING_BYTES {
         say(&out[0..d]);
     }
     say_token(number);
@@ -273,7 +295,7 @@ fn print_heading(number: usize) {
 }
 
 // A refusal with no place in the source.
-pub fn print_placeless(number: usize) {
+pub fn print_placeless(number: u16) {
     print_heading(number);
     say(b"no place in the source: it is refused as a whole\n");
 }
@@ -281,13 +303,16 @@ pub fn print_placeless(number: usize) {
 // A refusal with its places; the second is not there where it ends at 0.
 pub fn print_refusal(
     src: &[u8],
-    number: usize,
+    number: u16,
     start: usize,
     end: usize,
     start2: usize,
     end2: usize,
 ) {
-    if (number == 11) | (number == 41) | (number == 42) {
+    if (number == base_refusals::SOURCE_TOO_LONG)
+        | (number == base_refusals::NO_ROOM)
+        | (number == base_refusals::SHORT_BUFFER)
+    {
         print_placeless(number);
         return;
     }

@@ -23,21 +23,24 @@ pub fn put(out: &mut [u8], at: usize, text: &[u8]) -> usize {
 
 // Spaces up to a column, one at least.
 pub fn put_spaces(out: &mut [u8], at: usize, column: usize) -> usize {
-    let mut end = put_byte(out, at, 32);
+    let mut end = put_byte(out, at, b' ');
     let mut left = column;
     while left > 0 {
         if column <= end {
             return end;
         }
-        end = put_byte(out, end, 32);
+        end = put_byte(out, end, b' ');
         left -= 1;
     }
     end
 }
 
+// The most decimal digits of a number.
+const DECIMAL_DIGITS: usize = 20;
+
 // A number in decimal.
 pub fn put_decimal(out: &mut [u8], at: usize, n: u64) -> usize {
-    let mut digits = [0u8; 20];
+    let mut digits = [0u8; DECIMAL_DIGITS];
     let k = io::decimal(n, &mut digits);
     put(out, at, &digits[..k])
 }
@@ -45,32 +48,32 @@ pub fn put_decimal(out: &mut [u8], at: usize, n: u64) -> usize {
 // A number with what it counts: 1 word, 2 words.
 pub fn put_count(out: &mut [u8], at: usize, n: u64, what: &[u8]) -> usize {
     let a = put_decimal(out, at, n);
-    let b = put_byte(out, a, 32);
+    let b = put_byte(out, a, b' ');
     let c = put(out, b, what);
     if n == 1 {
         return c;
     }
-    put_byte(out, c, 115)
+    put_byte(out, c, b's')
 }
 
 // An x and four hexadecimal digits.
 pub fn put_hex(out: &mut [u8], at: usize, v: u16) -> usize {
     let digits = list_lines::hex4_of(v);
-    let next = put_byte(out, at, 120);
+    let next = put_byte(out, at, b'x');
     put(out, next, &digits)
 }
 
 // An x and two hexadecimal digits.
 pub fn put_hex2(out: &mut [u8], at: usize, v: u16) -> usize {
     let digits = list_lines::hex4_of(v);
-    let a = put_byte(out, at, 120);
+    let a = put_byte(out, at, b'x');
     let b = put_byte(out, a, digits[2]);
     put_byte(out, b, digits[3])
 }
 
 // Writes the line, which ends here, with a line feed.
 pub fn print_line(out: &mut [u8], at: usize) {
-    let end = put_byte(out, at, 10);
+    let end = put_byte(out, at, b'\n');
     if end <= out.len() {
         io::write_all(STDOUT_FILENO, &out[0..end]);
     }

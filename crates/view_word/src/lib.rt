@@ -1,4 +1,7 @@
 // A word of an object as a person sees it on a terminal: its address, itself, its label and its disassembly.
+use base_capacities::DEFINED;
+use base_capacities::LABEL_FLAG;
+use base_casts::word32;
 use std::num::wrapping_add_u16;
 use std::num::wrapping_add_usize;
 use view_instruction::Reach;
@@ -8,9 +11,29 @@ use view_text::put_byte;
 use view_text::put_hex;
 use view_text::put_spaces;
 
-fn wide32(n: u16) -> u32 {
-    n as u32
-}
+// A label's row begins at its number shifted so far, and a relocation's.
+pub const LABEL_SHIFT: usize = 2;
+
+pub const RELOCATION_SHIFT: usize = 1;
+
+// The columns of words, labels, instructions and what is noted beside them.
+const WORD_COLUMN: usize = 7;
+
+const LABEL_COLUMN: usize = 14;
+
+const INSTRUCTION_COLUMN: usize = 32;
+
+const NOTE_COLUMN: usize = 52;
+
+// Room for a label's own line, and for a word's.
+const LABEL_LINE_BYTES: usize = 128;
+
+const LINE_BYTES: usize = 256;
+
+// The characters that are shown: from the space up to the last before DEL.
+const FIRST_SHOWN: u16 = b' ' as u16;
+
+const PAST_SHOWN: u16 = 127;
 
 // The number at a place; 0 past the end.
 pub fn cell_at(cells: &[u32], i: usize) -> u32 {
@@ -22,12 +45,12 @@ pub fn cell_at(cells: &[u32], i: usize) -> u32 {
 
 // Whether label row k is defined.
 pub fn is_defined(labels: &[u32], k: usize) -> bool {
-    cell_at(labels, wrapping_add_usize(k << 2, 1)) == 0
+    cell_at(labels, wrapping_add_usize(k << LABEL_SHIFT, LABEL_FLAG)) == DEFINED
 }
 
 // Whether label row k is defined at an address.
 fn stands_at(labels: &[u32], k: usize, address: u16) -> bool {
-    is_defined(labels, k) & (cell_at(labels, k << 2) == wide32(address))
+    is_defined(labels, k) & (cell_at(labels, k << LABEL_SHIFT) == word32(address))
 }
 
 // The first of n label rows that is defined at an address; n where there is none.
@@ -46,7 +69,7 @@ fn label_row(labels: &[u32], n: usize, address: u16) -> usize {
 pub fn relocation_row(relocations: &[u32], n: usize, address: u16) -> usize {
     let mut row = 0;
     while row < n {
-        if cell_at(relocations, row << 1) == wide32(address) {
+        if cell_at(relocations, row << RELOCATION_SHIFT) == word32(address) {
             return row;
         }
         row += 1;
@@ -65,9 +88,9 @@ fn put_name(out: &mut [u8], at: usize, labels: &[u32], names: &[u8], k: usize, n
 // A label's own line, if it is one of n.
 fn print_label(labels: &[u32], names: &[u8], k: usize, n: usize, address: u16) {
     if k < n {
-        let mut out = [0u8; 128];
+        let mut out = [0u8; LABEL_LINE_BYTES];
         let a = put_hex(&mut out, 0, address);
-        let b = put_spaces(&mut out, a, 14);
+        let b = put_spaces(&mut out, a, LABEL_COLUMN);
         let c = put_name(&mut out, b, labels, names, k, n);
         print_line(&mut out, c);
     }
@@ -89,14 +112,14 @@ pub fn print_labels(labels: &[u32], names: &[u8], n: usize, address: u16) -> usi
 
 // A character, where a word is one.
 fn put_char(out: &mut [u8], at: usize, word: u16) -> usize {
-    if word < 32 {
+    if word < FIRST_SHOWN {
         return at;
     }
-    if word < 127 {
-        let a = put_spaces(out, at, 52);
+    if word < PAST_SHOWN {
+        let a = put_spaces(out, at, NOTE_COLUMN);
         let b = put(out, a, b"; '");
         let c = put_byte(out, b, word as u8);
-        return put_byte(out, c, 39);
+        return put_byte(out, c, b'\'');
     }
     at
 }
@@ -110,12 +133,12 @@ fn put_reached(
     n: usize,
     target: u16,
 ) -> usize {
-    let a = put_spaces(out, at, 52);
+    let a = put_spaces(out, at, NOTE_COLUMN);
     let b = put(out, a, b"; ");
     let c = put_hex(out, b, target);
     let row = label_row(labels, n, target);
     if row < n {
-        let d = put_byte(out, c, 32);
+        let d = put_byte(out, c, b' ');
         return put_name(out, d, labels, names, row, n);
     }
     c
@@ -145,19 +168,19 @@ fn put_word(
 // An address and the column of words.
 fn put_address(out: &mut [u8], address: u16) -> usize {
     let a = put_hex(out, 0, address);
-    put_spaces(out, a, 7)
+    put_spaces(out, a, WORD_COLUMN)
 }
 
 // The column of labels, and that of instructions.
 fn put_label(out: &mut [u8], at: usize, labels: &[u32], names: &[u8], k: usize, n: usize) -> usize {
-    let a = put_spaces(out, at, 14);
+    let a = put_spaces(out, at, LABEL_COLUMN);
     let b = put_name(out, a, labels, names, k, n);
-    put_spaces(out, b, 32)
+    put_spaces(out, b, INSTRUCTION_COLUMN)
 }
 
 // The line of a word that is set, with label row k of n.
 pub fn print_set(labels: &[u32], names: &[u8], k: usize, n: usize, address: u16, word: u16) {
-    let mut out = [0u8; 256];
+    let mut out = [0u8; LINE_BYTES];
     let a = put_address(&mut out, address);
     let b = put_hex(&mut out, a, word);
     let c = put_label(&mut out, b, labels, names, k, n);
@@ -167,7 +190,7 @@ pub fn print_set(labels: &[u32], names: &[u8], k: usize, n: usize, address: u16,
 
 // The line of a word that a .blkw leaves unset.
 pub fn print_unset(labels: &[u32], names: &[u8], k: usize, n: usize, address: u16) {
-    let mut out = [0u8; 256];
+    let mut out = [0u8; LINE_BYTES];
     let a = put_address(&mut out, address);
     let b = put(&mut out, a, b"-");
     let c = put_label(&mut out, b, labels, names, k, n);
@@ -184,13 +207,13 @@ pub fn print_waiting(
     address: u16,
     external: usize,
 ) {
-    let mut out = [0u8; 256];
+    let mut out = [0u8; LINE_BYTES];
     let a = put_address(&mut out, address);
     let b = put_hex(&mut out, a, 0);
     let c = put_label(&mut out, b, labels, names, k, n);
     let d = put(&mut out, c, b".fill ");
     let e = put_name(&mut out, d, labels, names, external, n);
-    let f = put_spaces(&mut out, e, 52);
+    let f = put_spaces(&mut out, e, NOTE_COLUMN);
     let g = put(&mut out, f, b"; external, known after a link");
     print_line(&mut out, g);
 }

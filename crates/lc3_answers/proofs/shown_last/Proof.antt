@@ -11,4 +11,4 @@ shown-last-spec =
     (λ c κs. search needs)
     (λ c κs. search needs)
     (λ c κs. search needs)
-    (λ c. rw (c .before .told-operand .ensures, c .before .before .wide162 .ensures, c .before .before .before .wide16 .ensures) at (c .accepted .ensures)))
+    (λ c. rw (c .before .told-operand .ensures, c .before .before .long162 .ensures, c .before .before .before .long16 .ensures) at (c .accepted .ensures)))

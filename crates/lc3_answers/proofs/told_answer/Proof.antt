@@ -17,4 +17,4 @@ told-answer-spec =
     (λ c κs. search needs)
     (λ c κs. search needs)
     (λ c κs. search needs)
-    (λ c. rw (c .wide8 .ensures, c .before .wide7 .ensures, c .before .before .wide6 .ensures, c .before .before .before .wide5 .ensures, c .before .before .before .before .wide4 .ensures, c .before .before .before .before .before .wide3 .ensures, c .before .before .before .before .before .before .wide2 .ensures, c .before .before .before .before .before .before .before .wide .ensures, c .before .before .before .before .before .before .before .before .wide16 .ensures) refl))
+    (λ c. rw (c .long8 .ensures, c .before .long7 .ensures, c .before .before .long6 .ensures, c .before .before .before .long5 .ensures, c .before .before .before .before .long4 .ensures, c .before .before .before .before .before .long3 .ensures, c .before .before .before .before .before .before .long2 .ensures, c .before .before .before .before .before .before .before .long .ensures, c .before .before .before .before .before .before .before .before .long16 .ensures) refl))

@@ -12,5 +12,5 @@ told-ident-spec =
     (λ c κs. search needs)
     (λ c. search needs)
     (λ c κs. search needs)
-    (λ c. rw (c .before .before .before .ident .given .1) (rw (c .before .wide8 .ensures) at (c .told-token .ensures)))
+    (λ c. rw (c .before .before .before .ident .given .1) (rw (c .before .long8 .ensures) at (c .told-token .ensures)))
     (λ c. rw (c .before .enum-told .given .1) (c .told-token2 .ensures)))

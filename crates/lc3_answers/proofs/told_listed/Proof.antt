@@ -13,5 +13,5 @@ told-listed-spec =
     (λ c. search needs)
     (λ c κs. search needs)
     (λ c κs. search needs)
-    (λ c. rw (c .before .before .before .listed .given .1) (rw (c .before .wide .ensures) at (c .accepted .ensures)))
-    (λ c. rw (c .before .before .before .listed2 .given .1) (rw (c .before .wide16 .ensures) at (c .refused .ensures))))
+    (λ c. rw (c .before .before .before .listed .given .1) (rw (c .before .long .ensures) at (c .accepted .ensures)))
+    (λ c. rw (c .before .before .before .listed2 .given .1) (rw (c .before .long16 .ensures) at (c .refused .ensures))))

@@ -16,4 +16,4 @@ told-next-spec =
     (λ c κs. search needs)
     (λ c. rw (c .before .before .next .given .1) (c .told-kind .ensures))
     (λ c. rw (c .before .before .next2 .given .1) (c .told-token .ensures))
-    (λ c. rw (c .before .before .before .next3 .given .1) (rw (c .before .wide16 .ensures) at (c .refused .ensures))))
+    (λ c. rw (c .before .before .before .next3 .given .1) (rw (c .before .long16 .ensures) at (c .refused .ensures))))

@@ -14,5 +14,5 @@ told-operand-spec =
     (λ c. search needs)
     (λ c. search needs)
     (λ c κs. search needs)
-    (λ c. rw (c .before .before .operand .given .1) (ap (λ (x : ℕ). 65536 + x) (c .wide16 .ensures)))
+    (λ c. rw (c .before .before .operand .given .1) (ap (λ (x : ℕ). 65536 + x) (c .long16 .ensures)))
     (λ c. search needs))

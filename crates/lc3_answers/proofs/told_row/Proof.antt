@@ -18,4 +18,4 @@ told-row-spec =
     (λ c. search needs)
     (λ c κs. search needs)
     (λ c κs. search needs)
-    (λ c. rw (c .before .wide322 .ensures, c .before .before .before .wide32 .ensures, c .before .before .before .before .before .wide .ensures) at (c .accepted .ensures)))
+    (λ c. rw (c .before .long322 .ensures, c .before .before .before .long32 .ensures, c .before .before .before .before .before .long .ensures) at (c .accepted .ensures)))

@@ -18,7 +18,7 @@ told-said-spec =
     (λ c κs. search needs)
     (λ c. search needs)
     (λ c κs. search needs)
-    (λ c. rw (c .before .before .before .s .given .1) (rw (c .before .wide32 .ensures) at (c .accepted .ensures)))
+    (λ c. rw (c .before .before .before .s .given .1) (rw (c .before .long32 .ensures) at (c .accepted .ensures)))
     (λ c. rw (c .before .enum-told .given .1) (c .accepted2 .ensures))
     (λ c. rw (c .before .enum-told2 .given .1) (c .accepted3 .ensures))
     (λ c. rw (c .before .enum-told3 .given .1) (c .refused .ensures))

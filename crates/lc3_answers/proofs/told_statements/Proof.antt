@@ -13,4 +13,4 @@ told-statements-spec =
     (λ c κs. search needs)
     (λ c κs. search needs)
     (λ c. rw (c .before .enum-told .given .1) (c .accepted .ensures))
-    (λ c. rw (c .before .before .before .statements .given .1) (rw (c .before .wide16 .ensures) at (c .refused .ensures))))
+    (λ c. rw (c .before .before .before .statements .given .1) (rw (c .before .long16 .ensures) at (c .refused .ensures))))

@@ -10,4 +10,4 @@ told-token-spec =
     (tie.spec
     (λ c κs. search needs)
     (λ c κs. search needs)
-    (λ c. rw (c .wide2 .ensures, c .before .wide .ensures) refl))
+    (λ c. rw (c .long2 .ensures, c .before .long .ensures) refl))

@@ -1,4 +1,4 @@
--- `lexeme::next_lexeme` meets its contract. Assumes nothing.
+-- `lex::next_lexeme` meets its contract. Assumes nothing.
 use borrow.Author.Needs.{needs}
 use Rattle.lex.proofs.Standing.{stands-flat}
 use Rattle.lex.proofs.next_lexeme.Statement.{statement}

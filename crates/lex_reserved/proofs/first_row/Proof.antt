@@ -9,7 +9,7 @@ use Rattle.lex_reserved.proofs.first_row.Tie as tie
 
 returns : tie.Need-returns
 unfolding starts firstRow
-returns c = c .wide2 .ensures ∙ ap (λ (k : ℕ). getD starts k 0) (c .before .wide .ensures)
+returns c = c .wide82 .ensures ∙ ap (λ (k : ℕ). getD starts k 0) (c .before .wide8 .ensures)
 
 pub first-row-spec : {M : Type 1} → statement M
 first-row-spec =

@@ -14,7 +14,7 @@ abbrev μ-loop : tie.MeasureT-loop
 μ-loop src labels₀ relocations₀ at₀ o₀ labels relocations at o = length src - at
 
 loop-holds : tie.Need-loop-holds Inv-loop μ-loop
-loop-holds c = going-start _ _ _ (c .before .before .before .before .pre .0) (c .before .before .before .before .pre .1) (c .before .before .before .before .pre .2) _ (c .begin .ensures)
+loop-holds c = going-start _ _ _ (c .before .before .before .before .pre .0) (c .before .before .before .before .pre .1) (c .before .before .before .before .pre .2) _ (c .fresh .ensures)
 
 step-requires : tie.Need-step-requires Inv-loop μ-loop
 step-requires c κs = (search needs, going-stands _ _ _ _ _ _ _ (c .before .before .before .before .before .before .loop .inv) _ (c .before .before .before .before .before .next-statement .ensures) _ (c .before .before .before .st .given .1))

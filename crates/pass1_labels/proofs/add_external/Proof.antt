@@ -1,4 +1,4 @@
--- `defining::add_external` meets its contract. Assumes nothing.
+-- `pass1_labels::add_external` meets its contract. Assumes nothing.
 use borrow.Author.Needs.{needs}
 use Rattle.pass1_labels.proofs.Defining.{define-external}
 use Rattle.pass1_labels.proofs.add_external.Statement.{statement}

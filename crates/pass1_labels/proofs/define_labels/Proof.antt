@@ -1,4 +1,4 @@
--- `defining::define_labels` meets its contract. Assumes nothing.
+-- `pass1_labels::define_labels` meets its contract. Assumes nothing.
 use borrow.Author.Needs.{needs}
 use Rattle.pass1_labels.proofs.Defining.{define-inside, define-outside, define-none}
 use Rattle.pass1_labels.proofs.define_labels.Statement.{statement}

@@ -1,4 +1,4 @@
--- `defining::step_of` meets its contract. Assumes nothing.
+-- `pass1_labels::step_of` meets its contract. Assumes nothing.
 use borrow.Author.Needs.{needs}
 use Rattle.pass1_labels.proofs.Defining.{step-held, step-refused}
 use Rattle.pass1_labels.proofs.step_of.Statement.{statement}

@@ -8,7 +8,7 @@ returns : tie.Need-returns
 returns c = search (needs, close-placed)
 
 returns-2 : tie.Need-returns-2
-returns-2 c = close-overlaps _ _ _ _ _ _ _ _ _ _ (c .before .before .before .before .before .answer .given .1) (c .before .before .before .wide .ensures) (c .before .before .wide2 .ensures) (c .before .wide3 .ensures) (c .wide4 .ensures)
+returns-2 c = close-overlaps _ _ _ _ _ _ _ _ _ _ (c .before .before .before .before .before .answer .given .1) (c .before .before .before .wide .ensures .0) (c .before .before .wide2 .ensures .0) (c .before .wide3 .ensures .0) (c .wide4 .ensures .0)
 
 pub close-of-spec : {M : Type 1} → statement M
 close-of-spec =

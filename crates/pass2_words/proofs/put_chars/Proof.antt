@@ -25,7 +25,7 @@ loop-less : tie.Need-loop-less Inv-loop μ-loop
 loop-less c = putting-less _ _ _ _ _ _ _ _ _ (c .before .before .before .before .before .before .before .before .before .before .before .before .loop .inv) _ (c .before .before .before .before .before .before .before .before .before .before .before .string-char .ensures) _ _ (c .before .before .before .before .before .before .before .before .before .byte .given .1)
 
 loop-again : tie.Need-loop-again Inv-loop μ-loop
-loop-again c = putting-on _ _ _ _ _ _ _ _ _ (c .before .before .before .before .before .before .before .before .before .before .before .before .loop .inv) _ (c .before .before .before .before .before .before .before .before .before .before .before .string-char .ensures) _ _ (c .before .before .before .before .before .before .before .before .before .byte .given .1) _ _ _ (c .before .before .before .before .before .wide .ensures) (c .before .before .before .before .push .ensures) (search needs) (search needs)
+loop-again c = putting-on _ _ _ _ _ _ _ _ _ (c .before .before .before .before .before .before .before .before .before .before .before .before .loop .inv) _ (c .before .before .before .before .before .before .before .before .before .before .before .string-char .ensures) _ _ (c .before .before .before .before .before .before .before .before .before .byte .given .1) _ _ _ (c .before .before .before .before .before .word8 .ensures) (c .before .before .before .before .push .ensures) (search needs) (search needs)
 
 returns : tie.Need-returns Inv-loop μ-loop
 returns c = putting-done _ _ _ _ _ _ _ _ _ (c .before .before .before .loop .inv) _ (c .before .before .string-char .ensures) (c .enum-told .given .1)

@@ -23,7 +23,7 @@ returns-2 : tie.Need-returns-2
 returns-2 c = λ at s f. wrote-fill _ _ _ _ _ _ _ _ (c .before .before .before .before .before .before .before .before .before .before .before .before .before .before .pre) at s f _ _ _ _ (c .before .before .before .before .put-answer2 .ensures) (c .before .before .before .before .before .before .before .before .enum-told2 .given .1) (c .before .before .before .before .before .before .before .fill-word .ensures at s f _)
 
 returns-3 : tie.Need-returns-3
-returns-3 c = λ at s f. wrote-blkw _ _ _ _ _ _ _ _ (c .before .before .before .before .before .before .before .pre) at s f (c .before .enum-told3 .given .1) _ (c .count .ensures)
+returns-3 c = λ at s f. wrote-blkw _ _ _ _ _ _ _ _ (c .before .before .before .before .before .before .before .pre) at s f (c .before .enum-told3 .given .1) _ (c .wide .ensures .0)
 
 returns-4 : tie.Need-returns-4
 returns-4 c = λ at s f. wrote-string _ _ _ _ _ _ _ _ (c .before .before .before .before .before .before .before .before .before .before .before .before .before .pre) at s f (c .before .before .before .before .before .before .before .enum-told4 .given .1) _ _ _ (c .before .before .before .before .put-string .ensures)
