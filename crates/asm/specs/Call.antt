@@ -1,19 +1,15 @@
 -- The call that assembles: what it answers, and what it leaves in the six lent buffers. Assumes nothing.
 use mathlib.Core.Path.{_≡_}
-use mathlib.Core.Bool.{Bool, false}
 use mathlib.Core.List.{List}
-use Prim.Native.Nat.{ℕ, _≤_}
-use Rattle.rules.specs.Base.{if_then_else_, Outcome, refuse, refuse2, span, nowhere}
+use Prim.Native.Nat.{ℕ}
+use Rattle.rules.specs.Base.{Outcome, span}
 use Rattle.rules.specs.Answers as rule
 use Rattle.rules.specs.Objects.{Object, countsOf, Good}
 use Rattle.rules.specs.Buffers.{Buffers, lentWords, layout, Valid}
 use Rattle.rules.specs.Calls.{ofBytes, Makes}
 use Rattle.rules.specs.Passes.{assemble}
 use Rattle.pass1_state.specs.declared.Pass1State.{Pass1State}
-use Rattle.pass1_state.specs.declared.Pass1Step.{Pass1Step}
-use Rattle.pass1_state.specs.declared.Pass1Step.the-variants.{Went, Refused}
 use Rattle.pass2_statement.specs.declared.Pass2State.{Pass2State}
-use Rattle.asm_first_half.specs.Tabled.{Begun}
 use Rattle.asm.specs.declared.Answer.{Answer}
 
 -- the answer in the rules' words
@@ -43,17 +39,6 @@ Leaves o b r b′ = Makes o b (meant r) b′
 
 abbrev pub Assembled : Buffers → List ℕ → Answer → Buffers → Type 0
 Assembled b s r b′ = Leaves (called b s) b r b′
-
--- the call of buffers that are too small or not, with so many lent words
-abbrev pub calling : Bool → ℕ → List ℕ → Outcome Object
-calling small room s = if small then refuse 42 nowhere else assemble room s
-
--- the call up to pass two: a source whose tables pass one has left and whose words the lent ones hold, or the call's refusal
-pub record Started (small : Bool) (room : ℕ) (rs qs s : List ℕ) (r : Pass1Step) : Type 0 where
-  pub long : (o : Pass1State) → r ≡ Went o → small ≡ false
-  pub went : (o : Pass1State) → r ≡ Went o → Begun rs qs s o
-  pub fits : (o : Pass1State) → r ≡ Went o → o .words ≤ room
-  pub stopped : (n a b c d : ℕ) → r ≡ Refused n a b c d → calling small room s ≡ refuse2 n (span a b) (span c d)
 
 -- what an accepted call leaves: a good object in its one layout, valid, with its counts
 pub record AcceptedCall (b : Buffers) (r : Answer) (b′ : Buffers) (o : Object) : Type 0 where

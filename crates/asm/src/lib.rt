@@ -7,14 +7,13 @@ ghost use mathlib.Core.Path.{_≡_};
 ghost use mathlib.Core.Bool.{false};
 ghost use mathlib.Core.List.{List};
 ghost use Prim.Native.Nat.{_≤_};
-ghost use lib.ListN.{length};
 ghost use Rattle.rules.specs.Base.{ok};
 ghost use Rattle.rules.specs.Statements.{Stmt, statements};
 ghost use Rattle.rules.specs.Buffers.{six, short, lentWords};
 ghost use Rattle.pass1_fill.specs.Tables.{seen};
 ghost use Rattle.asm_first_half.specs.Tabled.{Begun};
 ghost use Rattle.asm_second_half.specs.Made.{afterPass2};
-ghost use Rattle.asm.specs.Call.{Leaves, Assembled, Started, accepting, refusing};
+ghost use Rattle.asm.specs.Call.{Leaves, Assembled, accepting, refusing};
 
 // Number 0 is acceptance, with counts; any other is a refusal with its two places, and counts of 0.
 pub struct Answer {
@@ -60,38 +59,6 @@ fn accepted(o: Pass1State, t: Pass2State) -> Answer
         words: t.used,
         labels: o.labels,
         relocations: o.relocations,
-    }
-}
-
-// What is refused before pass two, in the rule's order: 42, then what goes before the end of pass one, then 41. No lent buffer is written.
-fn first_half(
-    src: &[u8],
-    small: bool,
-    room: usize,
-    rows: &mut [u32],
-    pending: &mut [u32],
-) -> Pass1Step
-    requires { ⌜ (4096 ≤ length (now rows)) × (4096 ≤ length (now pending)) ⌝ }
-    ensures { λ r. ⌜ Started small room (now (rows .exit)) (now (pending .exit)) (now (src .entry)) r ⌝ }
-{
-    if small {
-        return pass1_state::refused(base_refusals::SHORT_BUFFER, 0, 0);
-    }
-    let answer = asm_first_half::source_tables(src, rows, pending);
-    match answer {
-        Pass1Step::Went(o) => {
-            if room < o.words {
-                return pass1_state::refused(base_refusals::NO_ROOM, 0, 0);
-            }
-            answer
-        }
-        Pass1Step::Refused {
-            number: _,
-            start: _,
-            end: _,
-            start2: _,
-            end2: _,
-        } => answer,
     }
 }
 
@@ -153,7 +120,7 @@ pub fn assemble(
     let room = object::lent_words(words, marks);
     let mut rows = [0u32; base_capacities::PASS1_CELLS];
     let mut pending = [0u32; base_capacities::PASS1_CELLS];
-    match first_half(src, small, room, &mut rows, &mut pending) {
+    match asm_first_half::first_half(src, small, room, &mut rows, &mut pending) {
         Pass1Step::Went(o) => second_half(
             src,
             &rows,

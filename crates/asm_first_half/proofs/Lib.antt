@@ -1,2 +1,3 @@
 -- Laws that the proofs of `asm_first_half` cite. Assumes nothing.
 pub mod Checked
+pub mod Started

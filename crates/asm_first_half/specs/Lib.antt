@@ -1,2 +1,3 @@
 -- What the contracts of `asm_first_half` cite beside the rules. Assumes nothing.
 pub mod Tabled
+pub mod Starting

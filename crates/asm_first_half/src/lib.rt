@@ -1,10 +1,11 @@
-// A source up to the end of pass one: its tables, or the refusal that goes before all others.
+// A call up to pass two: the tables of pass one, or the refusal that goes before all others.
 use parse::Statements;
 use pass1_state::Pass1Step;
 ghost use mathlib.Core.Path.{_≡_};
 ghost use Prim.Native.Nat.{_≤_};
 ghost use lib.ListN.{length};
 ghost use Rattle.asm_first_half.specs.Tabled.{afterCheck, Tabled};
+ghost use Rattle.asm_first_half.specs.Starting.{Started};
 
 // Pass one's answer, unless the source is refused before it.
 fn after_check(check: Statements, answer: Pass1Step) -> Pass1Step
@@ -19,7 +20,7 @@ fn after_check(check: Statements, answer: Pass1Step) -> Pass1Step
 // The tables of pass one, whatever stood there, or the first refusal in the rule's order: 11, 12, the lexer's, those of statements, pass one's.
 // 11 is tested first, then pass one is tried. Where it goes to the end it has read every statement, and with them every token, so that only 12 can go before;
 // where it stops, at a refusal of its own or of a statement, the whole source is looked through for a refusal that goes before.
-pub fn source_tables(src: &[u8], labels: &mut [u32], relocations: &mut [u32]) -> Pass1Step
+fn source_tables(src: &[u8], labels: &mut [u32], relocations: &mut [u32]) -> Pass1Step
     requires { ⌜ (4096 ≤ length (now labels)) × (4096 ≤ length (now relocations)) ⌝ }
     ensures { λ r. ⌜ Tabled (now (labels .exit)) (now (relocations .exit)) (now (src .entry)) r ⌝ }
 {
@@ -36,5 +37,37 @@ pub fn source_tables(src: &[u8], labels: &mut [u32], relocations: &mut [u32]) ->
             start2: _,
             end2: _,
         } => after_check(parse::check_source(src), answer),
+    }
+}
+
+// What is refused before pass two, in the rule's order: 42, then what goes before the end of pass one, then 41. No lent buffer is written.
+pub fn first_half(
+    src: &[u8],
+    small: bool,
+    room: usize,
+    rows: &mut [u32],
+    pending: &mut [u32],
+) -> Pass1Step
+    requires { ⌜ (4096 ≤ length (now rows)) × (4096 ≤ length (now pending)) ⌝ }
+    ensures { λ r. ⌜ Started small room (now (rows .exit)) (now (pending .exit)) (now (src .entry)) r ⌝ }
+{
+    if small {
+        return pass1_state::refused(base_refusals::SHORT_BUFFER, 0, 0);
+    }
+    let answer = source_tables(src, rows, pending);
+    match answer {
+        Pass1Step::Went(o) => {
+            if room < o.words {
+                return pass1_state::refused(base_refusals::NO_ROOM, 0, 0);
+            }
+            answer
+        }
+        Pass1Step::Refused {
+            number: _,
+            start: _,
+            end: _,
+            start2: _,
+            end2: _,
+        } => answer,
     }
 }

@@ -104,7 +104,8 @@ fn trap_word(vect: TrapVect8) -> Encoded
     }
 }
 
-// The word of an instruction, or that an operand lies outside its field.
+// The word of an instruction, or that an operand lies outside its field. It is for callers who have an instruction: assembling makes none, but adds the operands of a
+// statement to the word of its row as they are read (`parse_field`, `pass2_encode`). Both follow the rules' one table.
 pub fn encode(instr: AsmInstr) -> Encoded
     ensures { λ r. ⌜ r ≡ encoded (word (meant instr)) ⌝ }
 {

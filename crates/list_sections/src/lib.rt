@@ -1,4 +1,4 @@
-// The listing of an object as bytes.
+// An object's blocks, labels and relocations as the bytes of their listing, one section behind the other.
 ghost use mathlib.Core.Path.{_≡_};
 ghost use mathlib.Core.List.{flatMap};
 ghost use Prim.Native.Nat.{_+_, _*_, _<_, _≤_};

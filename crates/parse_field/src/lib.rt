@@ -1,4 +1,4 @@
-// Operands one after another: what a line's operands give together, read from the source.
+// One operand into its field: which tokens a field takes, their numbers and ranges (14, 15, 16), and what the operands read so far give together.
 use base_capacities::ADDRESSES;
 use lex::next_lexeme;
 use lex_token::Lexeme;

@@ -1,8 +1,8 @@
--- `asm::first_half` meets its contract. Assumes nothing.
-use Rattle.asm.proofs.Stages.{started-short, started-full, started-went, started-stopped}
+-- `asm_first_half::first_half` meets its contract. Assumes nothing.
+use Rattle.asm_first_half.proofs.Started.{started-short, started-full, started-went, started-stopped}
 use borrow.Author.Needs.{needs}
-use Rattle.asm.proofs.first_half.Statement.{statement}
-use Rattle.asm.proofs.first_half.Tie as tie
+use Rattle.asm_first_half.proofs.first_half.Statement.{statement}
+use Rattle.asm_first_half.proofs.first_half.Tie as tie
 
 returns : tie.Need-returns
 returns c = search (needs, started-short)
