@@ -8,7 +8,7 @@ use lib.Dec.{eqb, leb, ltb}
 use lib.ListN.{length}
 use Rattle.rules.specs.Base.{if_then_else_, Outcome, ok, refused, refuse, require, _>>=_, _>>_, Span, span, nowhere}
 use Rattle.rules.specs.Capacities.{sourceRoom}
-use Rattle.rules.specs.Tokens.{Num, Found, token, blank, bad, Token, kept, tokenAt, tokensFrom, tokens, ascii, lexed, nextToken}
+use Rattle.rules.specs.Tokens.{Num, Found, token, blank, bad, Token, kept, tokenAt, tokensFrom, tokens, ascii, lexed, nextToken, blame}
 use Rattle.rules.specs.Words.{Range, signed, Field, reg, regOrImm, num, near, name, string, Row, find, instructions, directives}
 use Rattle.rules.specs.Statements.{Name, Piece, bits, target, chars, Given, bare, asRegister, asNumber, asLabel, asText, asWord, asDirective, isMark, fit, inRange, reduced, named, need, operand, ends, tokenIs, operandAt, commaAt, moreFrom, operandsFrom, lineEnd, Read, Stmt, stmt, rowRead, instrRead, tokenRead, pastLines, pastLabels, labelsAt, nextStatement, statementsFrom, statementsAt, statements}
 use Rattle.rules.proofs.Next.{next-induction}
@@ -34,17 +34,17 @@ single-require false n p = refl
 token-single : (s : List ℕ) (i : ℕ) → Single (nextToken s i)
 token-single s = next-induction s (λ i o. Single o) (λ i h. tt) (λ i n k h e l u w. tt) (λ i n m h e l u. refl) (λ i n h e l u q. q)
 
-kept-single : (f : Found) (p : Span) → Single (kept f p)
+kept-single : (f : Found) (p q : Span) → Single (kept f p q)
 unfolding kept
-kept-single (token k) p = tt
-kept-single blank p = tt
-kept-single (bad n) p = refl
+kept-single (token k) p q = tt
+kept-single blank p q = tt
+kept-single (bad n) p q = refl
 
 tokens-single : (k i : ℕ) (s : List ℕ) → Single (tokensFrom k i s)
 unfolding tokensFrom
 tokens-single k i [] = tt
 tokens-single (suc k) i (c ∷ s) = tokens-single k (i + 1) s
-tokens-single zero i (c ∷ s) = single-bind (kept (tokenAt c s .found) (span i (i + tokenAt c s .size))) _ (kept-single (tokenAt c s .found) (span i (i + tokenAt c s .size))) (λ t. single-bind (tokensFrom (tokenAt c s .size - 1) (i + 1) s) _ (tokens-single (tokenAt c s .size - 1) (i + 1) s) (λ ts. tt))
+tokens-single zero i (c ∷ s) = single-bind (kept (tokenAt c s .found) (span i (i + tokenAt c s .size)) (blame i (tokenAt c s))) _ (kept-single (tokenAt c s .found) (span i (i + tokenAt c s .size)) (blame i (tokenAt c s))) (λ t. single-bind (tokensFrom (tokenAt c s .size - 1) (i + 1) s) _ (tokens-single (tokenAt c s .size - 1) (i + 1) s) (λ ts. tt))
 
 ascii-single : (i : ℕ) (s : List ℕ) → Single (ascii i s)
 unfolding ascii

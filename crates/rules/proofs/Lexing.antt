@@ -9,7 +9,7 @@ use lib.ListN.{length, drop, getD, length-drop}
 use lib.Seq.{drop-cons, drop-drop}
 use Rattle.rules.specs.Base.{Outcome, ok, _>>=_, span}
 use Rattle.rules.proofs.Sizes.{Within, token-within}
-use Rattle.rules.specs.Tokens.{Token, Match, tokenAt, kept, tokensFrom}
+use Rattle.rules.specs.Tokens.{Token, Match, tokenAt, kept, tokensFrom, blame}
 
 -- bytes already read are passed over
 skip : (k i : ℕ) (s : List ℕ) → k ≤ length s → tokensFrom k i s ≡ tokensFrom 0 (i + k) (drop k s)
@@ -21,7 +21,7 @@ skip (suc k) i (c ∷ s) h = skip k (i + 1) s (le-of-suc-le-suc h) ∙ ap (λ (n
 -- what the rest of the source gives after a match
 unfoldable pub andThen : Match → ℕ → List ℕ → Outcome (List Token)
 andThen m i rest = do
-  t ← kept (m .found) (span i (i + m .size))
+  t ← kept (m .found) (span i (i + m .size)) (blame i m)
   ts ← tokensFrom 0 (i + m .size) rest
   ok (t ++ ts)
 
@@ -29,7 +29,7 @@ step : (c i : ℕ) (r : List ℕ) (m : Match) → tokenAt c r ≡ m → 1 ≤ m 
 unfolding tokensFrom andThen
 step c i r m e lo hi =
     rw e
-    (ap (λ (f : Outcome (List Token)). kept (m .found) (span i (i + m .size)) >>= λ t. f >>= λ ts. ok (t ++ ts))
+    (ap (λ (f : Outcome (List Token)). kept (m .found) (span i (i + m .size)) (blame i m) >>= λ t. f >>= λ ts. ok (t ++ ts))
     (skip (m .size - 1) (i + 1) r hi ∙ ap (λ (n : ℕ). tokensFrom 0 n (drop (m .size - 1) r)) (omega arith)))
 
 -- the tokens from position i: the one there, then those from its end

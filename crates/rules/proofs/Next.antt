@@ -11,7 +11,7 @@ use borrow.Author.Tests.{ltb-true, ltb-false}
 use lib.ListN.{length, drop, getD, length-drop, drop-of-length-le}
 use lib.Seq.{drop-cons, drop-drop}
 use Rattle.rules.specs.Base.{Outcome, ok, refuse, span}
-use Rattle.rules.specs.Tokens.{Token, tokenIn, Kind, mark, Found, token, blank, bad, Match, match, tokenAt, nextFrom, nextToken}
+use Rattle.rules.specs.Tokens.{Token, tokenIn, Kind, mark, Found, token, blank, bad, Match, match, tokenAt, nextFrom, nextToken, blame}
 use Rattle.rules.proofs.Sizes.{Within, token-within}
 use Rattle.rules.proofs.Shown.{Shows, token-right}
 
@@ -28,7 +28,7 @@ here i m rest =
     elim (m .found) [
       | token k ↦ ok (tokenIn k (span i (i + m .size)))
       | blank ↦ nextFrom (m .size - 1) (i + 1) rest
-      | bad n ↦ refuse n (span i (i + m .size))
+      | bad n ↦ refuse n (blame i m)
     ]
 
 module _ (s : List ℕ) (i : ℕ) where

@@ -6,7 +6,7 @@ use mathlib.Core.Logic.{⊎-elim}
 use mathlib.Core.List.{List, [], _∷_, _++_}
 use Rattle.rules.specs.Base.{if_then_else_, is, Outcome, ok, _>>=_, span}
 use Rattle.rules.specs.Patterns.{tokenBy, tokensByFrom, tokensBy}
-use Rattle.rules.specs.Tokens.{Match, match, bad, begins, digit, letter, space, upper, Token, kept, tokenAt, tokensFrom, tokens}
+use Rattle.rules.specs.Tokens.{Match, match, bad, begins, digit, letter, space, upper, Token, kept, tokenAt, tokensFrom, tokens, blame}
 use Rattle.rules.proofs.FirstByte as F
 use Rattle.rules.proofs.FirstByte.{by-test, if-yes, if-no}
 use Rattle.rules.proofs.Bools.{and-left, and-right}
@@ -50,7 +50,7 @@ from-by : (k i : ℕ) (s : List ℕ) → tokensByFrom k i s ≡ tokensFrom k i s
 unfolding tokensByFrom tokensFrom
 from-by k i [] = refl
 from-by (suc k) i (c ∷ s) = from-by k (i + 1) s
-from-by zero i (c ∷ s) = rw (token-by c s) (ap (λ (f : Outcome (List Token)). kept (tokenAt c s .found) (span i (i + tokenAt c s .size)) >>= λ t. f >>= λ ts. ok (t ++ ts)) (from-by (tokenAt c s .size - 1) (i + 1) s))
+from-by zero i (c ∷ s) = rw (token-by c s) (ap (λ (f : Outcome (List Token)). kept (tokenAt c s .found) (span i (i + tokenAt c s .size)) (blame i (tokenAt c s)) >>= λ t. f >>= λ ts. ok (t ++ ts)) (from-by (tokenAt c s .size - 1) (i + 1) s))
 
 pub tokens-by : (s : List ℕ) → tokensBy s ≡ tokens s
 unfolding tokensBy tokens

@@ -10,7 +10,7 @@ use lib.ListN.{length, take, drop}
 use lib.Dec.{ltb}
 use Rattle.rules.specs.Base.{Outcome, ok, _>>=_, span, is, within}
 use Rattle.rules.specs.Regex.{Regex, empty, byte, _then_, _or_, star, Matches, longest}
-use Rattle.rules.specs.Tokens.{Found, token, blank, bad, Match, match, mark, word, directive, digit, letter, wordy, space, upper, dec, decNeg, hex, hexNeg, reg, read, afterQuote, Token, tokenIn, kept}
+use Rattle.rules.specs.Tokens.{Found, token, blank, bad, Match, match, mark, word, directive, digit, letter, wordy, space, upper, dec, decNeg, hex, hexNeg, reg, read, afterQuote, Token, tokenIn, kept, blame}
 
 -- the classes and repeats that lex.rs writes
 abbrev pub c1 : Char → Regex
@@ -133,7 +133,7 @@ tokensByFrom k i [] = ok (tokenIn (mark 0) (span i i) ∷ [])
 tokensByFrom (suc k) i (c ∷ s) = tokensByFrom k (i + 1) s
 tokensByFrom zero i (c ∷ s) = do
   let m = tokenBy (c ∷ s)
-  t ← kept (m .found) (span i (i + m .size))
+  t ← kept (m .found) (span i (i + m .size)) (blame i m)
   ts ← tokensByFrom (m .size - 1) (i + 1) s
   ok (t ++ ts)
 

@@ -221,11 +221,15 @@ pub record Token : Type 0 where
 abbrev pub tokenIn : Kind → Span → Token
 tokenIn k p = record { kind = k; place = p }
 
--- what a match at a place gives: a token, nothing, or a refusal
-unfoldable pub kept : Found → Span → Outcome (List Token)
-kept (token k) p = ok (tokenIn k p ∷ [])
-kept blank p = ok []
-kept (bad n) p = refuse n p
+-- where the refusal of a match at offset i stands: at the token, which of 10 is one byte and of 7 goes to the end of the line
+abbrev pub blame : ℕ → Match → Span
+blame i m = span i (i + m .size)
+
+-- what a match gives: a token at p, nothing, or a refusal at q
+unfoldable pub kept : Found → Span → Span → Outcome (List Token)
+kept (token k) p q = ok (tokenIn k p ∷ [])
+kept blank p q = ok []
+kept (bad n) p q = refuse n q
 
 -- The tokens of a source's rest that begins at offset i, of which k bytes belong to a token already read; the last is the source's end.
 unfoldable pub tokensFrom : ℕ → ℕ → List ℕ → Outcome (List Token)
@@ -233,7 +237,7 @@ tokensFrom k i [] = ok (tokenIn (mark 0) (span i i) ∷ [])
 tokensFrom (suc k) i (c ∷ s) = tokensFrom k (i + 1) s
 tokensFrom zero i (c ∷ s) = do
   let m = tokenAt c s
-  t ← kept (m .found) (span i (i + m .size))
+  t ← kept (m .found) (span i (i + m .size)) (blame i m)
   ts ← tokensFrom (m .size - 1) (i + 1) s
   ok (t ++ ts)
 
@@ -249,7 +253,7 @@ nextFrom zero i (c ∷ s) =
     elim (m .found) [
       | token k ↦ ok (tokenIn k (span i (i + m .size)))
       | blank ↦ nextFrom (m .size - 1) (i + 1) s
-      | bad n ↦ refuse n (span i (i + m .size))
+      | bad n ↦ refuse n (blame i m)
     ]
 
 unfoldable pub nextToken : List ℕ → ℕ → Outcome Token
