@@ -53,14 +53,14 @@ enum lc3_refusal {
     LC3_UNCLOSED_ORIG = 22,       /* UnclosedOrig: the .orig */
     LC3_UNOPENED_ORIG = 23,       /* UnopenedOrig: the .end */
     LC3_OVERLAPPING_ORIG = 24,    /* OverlappingOrig: both .orig */
-    LC3_OVERLAPPING_LABELS = 25,  /* OverlappingLabels: the first and the second label */
+    LC3_OVERLAPPING_LABELS = 25,  /* OverlappingLabels: the first and the second label; in a link the label row r of the first object, as r, r + 1 */
     LC3_WRAPPING_BLOCK = 26,      /* WrappingBlock: the statement */
     LC3_BLOCK_IN_IO = 27,         /* BlockInIO: the statement */
-    LC3_OVERLAPPING_BLOCKS = 28,  /* OverlappingBlocks: both .orig, the earlier first */
+    LC3_OVERLAPPING_BLOCKS = 28,  /* OverlappingBlocks: both .orig, the earlier first; in a link no place */
     LC3_OFFSET_NEW_ERR = 29,      /* OffsetNewErr: the label operand */
     LC3_OFFSET_EXTERNAL = 30,     /* OffsetExternal: the label operand */
     LC3_COULD_NOT_FIND_LABEL = 31, /* CouldNotFindLabel: the label operand */
-    LC3_TABLE_FULL = 40,          /* TableFull: the statement */
+    LC3_TABLE_FULL = 40,          /* TableFull: the statement; in a link no place */
     LC3_NO_ROOM = 41,             /* NoRoom: no place */
     LC3_SHORT_BUFFER = 42,        /* ShortBuffer: no place */
     LC3_BAD_OBJECT = 43,          /* BadObject: no place */
@@ -103,6 +103,28 @@ void lc3_assemble(const uint8_t *src, size_t src_len,
                   uint16_t *blocks, size_t blocks_len, uint16_t *words, size_t words_len, uint8_t *marks, size_t marks_len,
                   uint32_t *labels, size_t labels_len, uint32_t *relocations, size_t relocations_len, uint8_t *names, size_t names_len,
                   uint64_t out[LC3_ANSWER]);
+
+/* Links two lent objects into the six buffers behind them, which must not overlap those lent. Counts: blocks, words, labels, relocations; the
+   unused rest of each buffer is zero. After a refusal every buffer is zero: 42 (any table of the three is short), 43 (one of the two is no
+   object), 28 (they share an address), 25 (they define a name at two addresses; its place is the row of the smallest such name in the first
+   object), then 40 and 41, counted on the result.
+
+   A list of one or more objects, linked in any order and any grouping, gives one same object or is refused each way; refused exactly when two
+   entries share an address or define one name at two addresses; each relocation whose name some entry defines holds that address, every other
+   word is as its entry had it. This needs that every link lends at least as many words and marks as the list has together, and that blocks,
+   words, labels and relocations, added up over the list, are within 64, the lent words, 1,024 and 1,024; otherwise 40 or 41 can come of one
+   grouping and not of another. */
+void lc3_link(size_t n_blocks1, size_t n_words1, size_t n_labels1, size_t n_relocations1,
+              const uint16_t *blocks1, size_t blocks1_len, const uint16_t *words1, size_t words1_len, const uint8_t *marks1, size_t marks1_len,
+              const uint32_t *labels1, size_t labels1_len, const uint32_t *relocations1, size_t relocations1_len,
+              const uint8_t *names1, size_t names1_len,
+              size_t n_blocks2, size_t n_words2, size_t n_labels2, size_t n_relocations2,
+              const uint16_t *blocks2, size_t blocks2_len, const uint16_t *words2, size_t words2_len, const uint8_t *marks2, size_t marks2_len,
+              const uint32_t *labels2, size_t labels2_len, const uint32_t *relocations2, size_t relocations2_len,
+              const uint8_t *names2, size_t names2_len,
+              uint16_t *blocks, size_t blocks_len, uint16_t *words, size_t words_len, uint8_t *marks, size_t marks_len,
+              uint32_t *labels, size_t labels_len, uint32_t *relocations, size_t relocations_len, uint8_t *names, size_t names_len,
+              uint64_t out[LC3_ANSWER]);
 
 /* Writes the listing of a lent object to `text`, the rest of it zero. Counts: bytes, 0, 0, 0. Refusals: 42, 43, 51. */
 void lc3_list(size_t n_blocks, size_t n_words, size_t n_labels, size_t n_relocations,

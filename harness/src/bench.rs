@@ -1,9 +1,10 @@
 //! The crate and the library on the same inputs, from one driver, in one run.
 
 use crate::generate::routines;
-use crate::lent::{Six, Sizes};
+use crate::lent::{Kept, Six, Sizes};
 use crate::random::Random;
-use lc3_ensemble::asm::{assemble_debug, encoding};
+use lc3::Object;
+use lc3_ensemble::asm::{assemble_debug, encoding, ObjectFile};
 use lc3_ensemble::parse::lex::Token;
 use lc3_ensemble::parse::parse_ast;
 use logos::Logos;
@@ -93,7 +94,92 @@ fn sink<T>(result: T) {
     black_box(result);
 }
 
-/// The library's own inputs, or the sources named.
+/// A module of so many names, half of them its own and half the other module's, as many words that wait for these, and so many words in all.
+fn module(other: &str, own: &str, at: usize, names: usize, words: usize) -> String {
+    let half = names / 2;
+    let externals = (0..half).map(|i| format!(".external {other}_{i:03}\n")).collect::<String>();
+    let fills = (0..half).map(|i| format!("{own}_{:03} .fill {other}_{i:03}\n.fill {other}_{i:03}\n", i * 7 % half)).collect::<String>();
+    format!("{externals}.orig {at}\n{fills}{}.end\n", ".fill 7\n".repeat(words - names))
+}
+
+/// Lists of modules to link: two of 500 names, 500 relocations and 15,000 words each, and ten small ones.
+fn lists() -> Vec<(&'static str, Vec<String>)> {
+    let two = vec![module("B", "A", 0, 500, 15_000), module("A", "B", 20_000, 500, 15_000)];
+    let name = |i: usize| ["MA", "MB", "MC", "MD", "ME", "MF", "MG", "MH", "MI", "MJ"][i % 10];
+    let ten = (0..10).map(|i| module(name(i + 1), name(i), 0x3000 + 100 * i, 10, 40)).collect();
+    vec![("two large modules", two), ("ten small modules", ten)]
+}
+
+/// What one list of modules is in both: the crate's objects with debug symbols and without, the library's in buffers and as values.
+struct Assembled {
+    debug: Vec<ObjectFile>,
+    plain: Vec<ObjectFile>,
+    kept: Vec<Kept>,
+    owned: Vec<Object>,
+}
+
+fn assembled(sources: &[String]) -> Assembled {
+    let mut six = Six::new();
+    let mut kept = |src: &String| {
+        let answer = six.assemble(src.as_bytes(), Sizes::FULL);
+        six.kept([5, 6, 7, 8].map(|i| answer[i] as usize))
+    };
+    let plain = |src: &String| {
+        let ast = parse_ast(src).unwrap();
+        let symbols = encoding::pass_one(&ast, None).unwrap_or_else(|e| panic!("{e}"));
+        encoding::pass_two(ast, symbols).unwrap_or_else(|e| panic!("{e}"))
+    };
+    Assembled {
+        debug: sources.iter().map(|src| assemble_debug(parse_ast(src).unwrap(), src).unwrap_or_else(|e| panic!("{e}"))).collect(),
+        plain: sources.iter().map(plain).collect(),
+        kept: sources.iter().map(&mut kept).collect(),
+        owned: sources.iter().map(|src| lc3::assemble(src.as_bytes()).unwrap()).collect(),
+    }
+}
+
+/// The crate's link of a list, one after another. It takes its objects, so each run has copies of its own, made before.
+fn crates_link(copies: &mut Vec<Vec<ObjectFile>>) {
+    let list = copies.pop().expect("a copy for each run");
+    sink(list.into_iter().reduce(|a, b| ObjectFile::link(a, b).unwrap_or_else(|e| panic!("{e}"))));
+}
+
+/// The same in buffers that are lent again and again, as many words as the list has together.
+fn lent_link(list: &[Kept], buffers: &mut [Six; 2]) {
+    let words: usize = list.iter().map(|o| o.counts[1]).sum();
+    let sizes = Sizes { words, marks: words, ..Sizes::FULL };
+    let [from, to] = buffers;
+    let answer = from.link_clean(list[0].lent(), list[1].lent(), sizes);
+    let mut counts = [5, 6, 7, 8].map(|i| answer[i] as usize);
+    for next in &list[2..] {
+        let answer = to.link_clean(from.lent(counts, sizes), next.lent(), sizes);
+        counts = [5, 6, 7, 8].map(|i| answer[i] as usize);
+        std::mem::swap(from, to);
+    }
+    sink(counts);
+}
+
+fn bench_links() {
+    let mut buffers = [Six::new(), Six::new()];
+    for (name, sources) in lists() {
+        let all = assembled(&sources);
+        let bytes: usize = sources.iter().map(String::len).sum();
+        let show = |what: &str, times| show(name, bytes, what, times);
+        let mut copies = vec![all.debug.clone(); RUNS];
+        show("link, debug symbols there", best(|| crates_link(&mut copies), || lent_link(&all.kept, &mut buffers)));
+        let mut copies = vec![all.plain.clone(); RUNS];
+        show("link, buffers lent once", best(|| crates_link(&mut copies), || lent_link(&all.kept, &mut buffers)));
+        let mut copies = vec![all.plain.clone(); RUNS];
+        let owned = || sink(Object::link_all(&all.owned).unwrap());
+        show("link, buffers made each time", best(|| crates_link(&mut copies), owned));
+    }
+}
+
+fn show(name: &str, bytes: usize, what: &str, (there, here): (Duration, Duration)) {
+    let (a, b) = (there.as_secs_f64() * 1e3, here.as_secs_f64() * 1e3);
+    println!("{name:<22} {bytes:>8} {what:<34} {a:>10.3} {b:>10.3} {:>6.2}", a / b);
+}
+
+/// The library's own inputs and links, or the sources named.
 pub fn bench(paths: &[String]) {
     println!("best of {RUNS}; a ratio above 1: the library is faster. The crate's lexer stands on a stand-in for logos.");
     println!("{:<22} {:>8} {:<34} {:>10} {:>10} {:>6}", "input", "bytes", "what", "crate ms", "here ms", "ratio");
@@ -101,10 +187,7 @@ pub fn bench(paths: &[String]) {
     for (name, files) in if paths.is_empty() { inputs() } else { named(paths) } {
         let bytes: usize = files.iter().map(Vec::len).sum();
         let texts: Vec<&str> = files.iter().map(|f| std::str::from_utf8(f).unwrap()).collect();
-        let show = |what: &str, (there, here): (Duration, Duration)| {
-            let (a, b) = (there.as_secs_f64() * 1e3, here.as_secs_f64() * 1e3);
-            println!("{name:<22} {bytes:>8} {what:<34} {a:>10.3} {b:>10.3} {:>6.2}", a / b);
-        };
+        let show = |what: &str, times| show(&name, bytes, what, times);
         let lexed = || texts.iter().for_each(|t| sink(Token::lexer(t).spanned().count()));
         let alone: Vec<Vec<u8>> = files.iter().map(|f| lexer_only(f)).collect();
         show("lexer alone", best(lexed, || alone.iter().for_each(|f| sink(lc3::first_refusal(f)))));
@@ -119,5 +202,8 @@ pub fn bench(paths: &[String]) {
         show("assemble, buffers lent once", best(whole, lent));
         let owned = || files.iter().for_each(|f| sink(lc3::assemble(f).unwrap()));
         show("assemble, buffers made each time", best(whole, owned));
+    }
+    if paths.is_empty() {
+        bench_links();
     }
 }

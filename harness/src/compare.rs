@@ -3,7 +3,7 @@
 use crate::lent::{numbers, Layout, Six, Sizes};
 use crate::random::Random;
 use crate::reader;
-use crate::reference::{reference, Notes, Object, Reference, SAME_ADDRESS};
+use crate::reference::{reference, Assembled, Notes, Object, Reference, SAME_ADDRESS};
 use crate::valid;
 use lc3::{raw, Refusal, Span};
 use lc3_ensemble::parse::lex::{Ident, Token};
@@ -19,8 +19,13 @@ pub struct Tally {
     pub lent: BTreeMap<u16, usize>,
     pub named: BTreeMap<&'static str, usize>,
     pub differences: usize,
-    random: Random,
-    six: Six,
+    /// Sets of modules, of which so many keep to what document 01's third demand needs, and the answers of their links.
+    pub sets: usize,
+    pub promises: usize,
+    pub links: usize,
+    pub links_by_number: BTreeMap<u16, usize>,
+    pub random: Random,
+    pub six: Six,
     text: Vec<u8>,
 }
 
@@ -38,13 +43,17 @@ impl Tally {
             lent: BTreeMap::new(),
             named: BTreeMap::new(),
             differences: 0,
+            sets: 0,
+            promises: 0,
+            links: 0,
+            links_by_number: BTreeMap::new(),
             random: Random::new(seed),
             six: Six::new(),
             text: vec![0; 1_000_000],
         }
     }
 
-    fn differs(&mut self, src: &[u8], what: String) {
+    pub fn differs(&mut self, src: &[u8], what: String) {
         self.differences += 1;
         if self.differences <= SHOWN {
             let head = &src[..src.len().min(400)];
@@ -52,7 +61,7 @@ impl Tally {
         }
     }
 
-    fn expect<T: PartialEq + std::fmt::Debug>(&mut self, src: &[u8], call: &str, here: T, there: T) {
+    pub fn expect<T: PartialEq + std::fmt::Debug>(&mut self, src: &[u8], call: &str, here: T, there: T) {
         self.calls += 1;
         if here != there {
             self.differs(src, format!("{call}: here {here:?}, there {there:?}"));
@@ -71,7 +80,7 @@ impl Tally {
         let answer = self.assembled(src, &expected, Sizes::FULL);
         *self.by_number.entry(answer[0] as u16).or_default() += 1;
         match expected.lent(raw::WORDS) {
-            Ok(o) if answer[0] == 0 => self.object(src, o, &mut notes),
+            Ok(a) if answer[0] == 0 => self.object(src, a, &mut notes),
             _ => {}
         }
         let mut answers = vec![(Sizes::FULL, answer)];
@@ -139,7 +148,7 @@ impl Tally {
     fn assembled(&mut self, src: &[u8], expected: &Reference, sizes: Sizes) -> raw::Answer {
         let short = Refusal { number: 42, spans: [0..0, 0..0] };
         let there = if sizes.short() { Err(short) } else { expected.lent(sizes.words.min(sizes.marks)) };
-        let layout = there.as_ref().map_or_else(|_| Layout::default(), |o| Layout::of(o));
+        let layout = there.as_ref().map_or_else(|_| Layout::default(), |a| Layout::of(&a.object));
         let there = numbers(there.as_ref().map(|_| layout.counts()));
         let here = self.six.assemble(src, sizes);
         self.expect(src, "assemble", here, there);
@@ -175,7 +184,8 @@ impl Tally {
     }
 
     /// What is asked of an accepted object, which still stands in the buffers.
-    fn object(&mut self, src: &[u8], o: &Object, notes: &mut Notes) {
+    fn object(&mut self, src: &[u8], a: &Assembled, notes: &mut Notes) {
+        let o = &a.object;
         let layout = Layout::of(o);
         let counts = layout.counts();
         self.listed(src, counts, &listing(o));
@@ -183,15 +193,15 @@ impl Tally {
         for _ in 0..names.len().min(3) {
             let (name, (at, external)) = names[self.random.below(names.len())];
             self.looked_up(src, counts, name, [0, 0, 0, 0, 0, 1, u64::from(*external), u64::from(*at), 0]);
-            self.expect(src, "the crate's lookup_label", Some(*at), o.file.symbol_table().unwrap().lookup_label(name));
-            self.reversed(src, counts, o, *at, notes);
+            self.expect(src, "the crate's lookup_label", Some(*at), a.file.symbol_table().unwrap().lookup_label(name));
+            self.reversed(src, counts, a, *at, notes);
         }
         let other = ["NO_SUCH_NAME", "", "A", "x", "HALT"][self.random.below(5)];
         if !o.labels.contains_key(&other.to_ascii_uppercase()) {
             self.looked_up(src, counts, other, [0; 9]);
         }
         let at = o.blocks.first().map_or(0, |(start, words)| start.wrapping_add(words.len() as u16));
-        self.reversed(src, counts, o, at, notes);
+        self.reversed(src, counts, a, at, notes);
         if let Some(buffer) = self.six.fault(Sizes::FULL, &layout) {
             self.differs(src, format!("list or a lookup changes the object: {buffer}"));
         }
@@ -228,13 +238,14 @@ impl Tally {
     }
 
     /// The smallest name at an address; the crate gives some name there.
-    fn reversed(&mut self, src: &[u8], counts: [usize; 4], o: &Object, at: u16, notes: &mut Notes) {
+    fn reversed(&mut self, src: &[u8], counts: [usize; 4], a: &Assembled, at: u16, notes: &mut Notes) {
+        let o = &a.object;
         let there: Vec<_> = o.labels.iter().enumerate().filter(|(_, (_, (a, _)))| *a == at).map(|(row, (name, _))| (row, name)).collect();
         let here = raw::rev_lookup_label(self.six.lent(counts, Sizes::FULL), at.into());
         let before = |row: usize| o.labels.keys().take(row).map(String::len).sum::<usize>() as u64;
         let expected = there.first().map_or([0; 9], |(row, name)| [0, 0, 0, 0, 0, 1, *row as u64, before(*row), name.len() as u64]);
         self.expect(src, "rev_lookup_label", here, expected);
-        let crates = o.file.symbol_table().unwrap().rev_lookup_label(at);
+        let crates = a.file.symbol_table().unwrap().rev_lookup_label(at);
         match (crates, there.as_slice()) {
             (Some(name), [(_, first), ..]) if name == *first => {}
             (Some(name), several) if several.iter().any(|(_, n)| *n == name) => notes.named.push(SAME_ADDRESS),

@@ -5,7 +5,8 @@ use crate::reference::Object;
 use lc3::raw::{self, Answer, Buffers, Lent};
 use lc3::Refusal;
 
-/// Six buffers of the largest sizes that are tried.
+/// Six buffers, of the largest sizes that are tried or as an object needs them.
+#[derive(Clone, PartialEq)]
 pub struct Six {
     blocks: Vec<u16>,
     words: Vec<u16>,
@@ -67,9 +68,14 @@ impl Sizes {
     }
 }
 
+/// Whether every number is this one.
+fn all<T: PartialEq>(buffer: &[T], number: T) -> bool {
+    buffer.is_empty() || (buffer[0] == number && buffer[1..] == buffer[..buffer.len() - 1])
+}
+
 /// Whether the buffer has these numbers first and zero after them.
 fn holds<T: PartialEq + From<u8>>(buffer: &[T], first: &[T]) -> bool {
-    buffer.len() >= first.len() && buffer[..first.len()] == *first && buffer[first.len()..].iter().all(|n| *n == T::from(0))
+    buffer.len() >= first.len() && buffer[..first.len()] == *first && all(&buffer[first.len()..], T::from(0))
 }
 
 /// The one layout of an object.
@@ -147,17 +153,29 @@ impl Six {
 
     /// Assembles into the buffers as they are.
     pub fn assemble_clean(&mut self, src: &[u8], n: Sizes) -> Answer {
-        raw::assemble(
-            src,
-            &mut Buffers {
-                blocks: &mut self.blocks[..n.blocks],
-                words: &mut self.words[..n.words],
-                marks: &mut self.marks[..n.marks],
-                labels: &mut self.labels[..n.labels],
-                relocations: &mut self.relocations[..n.relocations],
-                names: &mut self.names[..n.names],
-            },
-        )
+        raw::assemble(src, &mut self.buffers(n))
+    }
+
+    /// Links into dirty buffers of these sizes.
+    pub fn link(&mut self, a: Lent, b: Lent, n: Sizes) -> Answer {
+        self.soil();
+        self.link_clean(a, b, n)
+    }
+
+    /// Links into the buffers as they are.
+    pub fn link_clean(&mut self, a: Lent, b: Lent, n: Sizes) -> Answer {
+        raw::link(a, b, &mut self.buffers(n))
+    }
+
+    fn buffers(&mut self, n: Sizes) -> Buffers<'_> {
+        Buffers {
+            blocks: &mut self.blocks[..n.blocks],
+            words: &mut self.words[..n.words],
+            marks: &mut self.marks[..n.marks],
+            labels: &mut self.labels[..n.labels],
+            relocations: &mut self.relocations[..n.relocations],
+            names: &mut self.names[..n.names],
+        }
     }
 
     /// What is wrong with the buffers after a call that should leave this, if anything: what was lent holds it and zero after it,
@@ -171,10 +189,23 @@ impl Six {
             (holds(&self.relocations[..n.relocations], &l.relocations), "relocations"),
             (holds(&self.names[..n.names], &l.names), "names"),
         ];
-        let kept = self.blocks[n.blocks..].iter().chain(&self.words[n.words..]).all(|x| *x == 0xA5A5)
-            && self.marks[n.marks..].iter().chain(&self.names[n.names..]).all(|x| *x == 0xA5)
-            && self.labels[n.labels..].iter().chain(&self.relocations[n.relocations..]).all(|x| *x == 0xA5A5_A5A5);
+        let kept = all(&self.blocks[n.blocks..], 0xA5A5)
+            && all(&self.words[n.words..], 0xA5A5)
+            && all(&self.marks[n.marks..], 0xA5)
+            && all(&self.names[n.names..], 0xA5)
+            && all(&self.labels[n.labels..], 0xA5A5_A5A5)
+            && all(&self.relocations[n.relocations..], 0xA5A5_A5A5);
         lent.iter().find(|(good, _)| !good).map(|(_, name)| *name).or((!kept).then_some("what was not lent"))
+    }
+
+    /// Whether this object stands at the front of each buffer.
+    pub fn starts_with(&self, l: &Layout) -> bool {
+        self.blocks.starts_with(&l.blocks)
+            && self.words.starts_with(&l.words)
+            && self.marks.starts_with(&l.marks)
+            && self.labels.starts_with(&l.labels)
+            && self.relocations.starts_with(&l.relocations)
+            && self.names.starts_with(&l.names)
     }
 
     /// Changes one number of the object that stands in the buffers, or one of its counts.
@@ -182,7 +213,7 @@ impl Six {
         let edge = r.pick(&[0, 1, 2, 63, 64, 65, 1024, 0xFDFF, 0xFE00, 0xFFFF, 0x10000, u32::MAX]);
         let near = |r: &mut Random, n: u32| r.pick(&[n.wrapping_add(1), n.wrapping_sub(1), edge]);
         let [blocks, words, labels, relocations] = counts.map(|n| n.clamp(1, 64));
-        let (b, w, l, m) = (r.below(2 * blocks), r.below(words), r.below(4 * labels), r.below(2 * relocations));
+        let (b, w, l, m) = (r.below(2 * blocks), r.below(words.min(self.words.len())), r.below(4 * labels), r.below(2 * relocations));
         match r.below(9) {
             0 => self.blocks[b] = near(r, self.blocks[b].into()) as u16,
             1 => self.words[w] = near(r, self.words[w].into()) as u16,
@@ -198,6 +229,21 @@ impl Six {
         }
     }
 
+    /// The object in the buffers in buffers of its own, with a few words more than it has.
+    pub fn kept(&self, counts: [usize; 4]) -> Kept {
+        let f = Sizes::FULL;
+        let room = counts[1] + MORE;
+        let six = Six {
+            blocks: self.blocks[..f.blocks].to_vec(),
+            words: self.words[..room].to_vec(),
+            marks: self.marks[..room].to_vec(),
+            labels: self.labels[..f.labels].to_vec(),
+            relocations: self.relocations[..f.relocations].to_vec(),
+            names: self.names[..f.names].to_vec(),
+        };
+        Kept { counts, sizes: Sizes { words: room, marks: room, ..f }, six }
+    }
+
     /// The object in the buffers, lent on.
     pub fn lent(&self, counts: [usize; 4], n: Sizes) -> Lent<'_> {
         Lent {
@@ -209,5 +255,19 @@ impl Six {
             relocations: &self.relocations[..n.relocations],
             names: &self.names[..n.names],
         }
+    }
+}
+
+/// An object that a call has made, to be lent on.
+#[derive(Clone)]
+pub struct Kept {
+    pub counts: [usize; 4],
+    pub sizes: Sizes,
+    pub six: Six,
+}
+
+impl Kept {
+    pub fn lent(&self) -> Lent<'_> {
+        self.six.lent(self.counts, self.sizes)
     }
 }

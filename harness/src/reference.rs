@@ -24,6 +24,11 @@ pub const SAME_ADDRESS: &str = "several labels at one address";
 pub const NON_ASCII: &str = "a byte above x7F";
 pub const CAPACITY: &str = "the capacities (11, 40, 41)";
 
+/// The rows that a link can show.
+pub const LINK_SPANS: &str = "25 in a link: two places in two sources";
+pub const LINK_NAME: &str = "25 in a link: another name than the smallest";
+pub const LINK_CAPACITY: &str = "the capacities in a link (40)";
+
 /// What was noticed of the crate itself.
 #[derive(Default)]
 pub struct Notes {
@@ -41,21 +46,27 @@ pub struct Reference {
     /// The words of all blocks, where pass one accepts.
     pub total: Option<usize>,
     /// The answer but for 41.
-    pub answer: Result<Object, Refusal>,
+    pub answer: Result<Assembled, Refusal>,
 }
 
-/// What an object holds, in the order of the listing, beside the crate's own object.
+/// What an object holds, in the order of the listing.
+#[derive(Clone, Debug, Default, PartialEq)]
 pub struct Object {
     pub blocks: Vec<(u16, Vec<Option<u16>>)>,
     /// Address and whether external.
     pub labels: BTreeMap<String, (u16, bool)>,
     pub relocations: BTreeMap<u16, String>,
+}
+
+/// What an object holds, beside the crate's own object.
+pub struct Assembled {
+    pub object: Object,
     pub file: ObjectFile,
 }
 
 impl Reference {
     /// The answer where so many words are lent.
-    pub fn lent(&self, words: usize) -> Result<&Object, Refusal> {
+    pub fn lent(&self, words: usize) -> Result<&Assembled, Refusal> {
         match self.total {
             Some(total) if total > words.min(raw::WORDS) => Err(one(41, 0..0)),
             _ => self.answer.as_ref().map_err(Refusal::clone),
@@ -164,7 +175,7 @@ fn passes(tokens: Option<Lexed>, stmts: Vec<Stmt>, notes: &mut Notes) -> Referen
             if total > raw::WORDS {
                 notes.named.push(CAPACITY);
             }
-            let answer = encoding::pass_two(stmts, symbols).map_err(asm).map(object);
+            let answer = encoding::pass_two(stmts, symbols).map_err(asm).map(|file| Assembled { object: Object::of(&file), file });
             Reference { tokens, total: Some(total), answer }
         }
         (ours, crates) => {
@@ -189,12 +200,14 @@ fn beside_labels(stmts: &[Stmt], e: &AsmErr, notes: &mut Notes) {
     }
 }
 
-fn object(file: ObjectFile) -> Object {
-    Object {
-        blocks: encoding::blocks(&file).map(|(start, words)| (start, words.to_vec())).collect(),
-        labels: file.symbol_table().unwrap().label_iter().map(|(name, at, external)| (name.to_string(), (at, external))).collect(),
-        relocations: encoding::relocations(&file).map(|(at, name)| (at, name.to_string())).collect(),
-        file,
+impl Object {
+    /// What the crate's object holds.
+    pub fn of(file: &ObjectFile) -> Object {
+        Object {
+            blocks: encoding::blocks(file).map(|(start, words)| (start, words.to_vec())).collect(),
+            labels: file.symbol_table().unwrap().label_iter().map(|(name, at, external)| (name.to_string(), (at, external))).collect(),
+            relocations: encoding::relocations(file).map(|(at, name)| (at, name.to_string())).collect(),
+        }
     }
 }
 

@@ -17,7 +17,7 @@ const ACCEPTED: usize = 760;
 /// How many of a number that other sizes of buffers do not change.
 const AGAIN: usize = 3;
 /// How long a listing is kept.
-const LISTING: usize = 400;
+pub const LISTING: usize = 400;
 /// How long a repeated part of a source is looked for.
 const UNIT: usize = 16;
 
@@ -28,7 +28,8 @@ pub struct Sample {
     lines: String,
 }
 
-fn hex(bytes: &[u8]) -> String {
+/// Bytes in hexadecimal digits.
+pub fn hex(bytes: &[u8]) -> String {
     match bytes {
         [] => "-".to_string(),
         _ => bytes.iter().map(|b| format!("{b:02x}")).collect(),
@@ -50,7 +51,7 @@ fn stretch(src: &[u8], size: usize) -> (usize, usize) {
 }
 
 /// The source as a head, a short part with how often it stands there, and a tail.
-fn source(src: &[u8]) -> String {
+pub fn source(src: &[u8]) -> String {
     let whole = |(start, length): (usize, usize), size: usize| (start, length / size * size, size);
     let runs = (1..=UNIT).map(|size| whole(stretch(src, size), size));
     match runs.max_by_key(|(_, length, size)| (*length, UNIT - size)) {

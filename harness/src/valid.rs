@@ -1,5 +1,7 @@
-//! What makes lent buffers an object (43), written from document 01, and the listing of what stands in them.
+//! What makes lent buffers an object (43), written from document 01, the listing of what stands in them, and the object itself.
 
+use crate::lent::Sizes;
+use crate::reference::Object;
 use lc3::raw::Lent;
 use lc3_ensemble::parse::lex::{Ident, Token};
 use logos::Logos;
@@ -83,6 +85,12 @@ fn good_relocations(o: &Lent) -> bool {
         })
 }
 
+/// Whether a table or the names are shorter than full capacities need (42).
+pub fn short(o: &Lent) -> bool {
+    let f = Sizes::FULL;
+    o.blocks.len() < f.blocks || o.labels.len() < f.labels || o.relocations.len() < f.relocations || o.names.len() < f.names
+}
+
 /// Whether the buffers, each of full size, are an object.
 pub fn valid(o: &Lent) -> bool {
     good_blocks(o) && good_labels(o) && good_relocations(o)
@@ -109,4 +117,15 @@ pub fn listing(o: &Lent) -> String {
         writeln!(out, "REL {:04X} {}", row[0], text(row[1] as usize)).unwrap();
     }
     out
+}
+
+/// The object that stands in the buffers.
+pub fn object(o: &Lent) -> Object {
+    let text = |row: usize| String::from_utf8(name(o, row).unwrap().to_vec()).unwrap();
+    let mut cells = o.words.iter().zip(o.marks).map(|(word, mark)| (*mark == 1).then_some(*word));
+    Object {
+        blocks: o.blocks.chunks(2).take(o.counts[0]).map(|row| (row[0], cells.by_ref().take(row[1].into()).collect())).collect(),
+        labels: o.labels.chunks(4).take(o.counts[2]).enumerate().map(|(row, f)| (text(row), (f[0] as u16, f[1] == 1))).collect(),
+        relocations: o.relocations.chunks(2).take(o.counts[3]).map(|row| (row[0] as u16, text(row[1] as usize))).collect(),
+    }
 }

@@ -1,4 +1,4 @@
-//! The LC-3 assembler and lexer of Pleatspruce, for Rust.
+//! The LC-3 assembler, linker and lexer of Pleatspruce, for Rust.
 //!
 //! Each answer comes from the proved library `liblc3.a`; this crate lends it buffers of full size and gives its numbers names.
 //! Names follow the crate lc3-ensemble where it has the same thing.

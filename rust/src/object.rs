@@ -1,4 +1,4 @@
-//! An assembled source.
+//! An assembled source, or several linked.
 
 use crate::raw::{self, Answer, Buffers, Lent};
 use crate::Refusal;
@@ -47,38 +47,95 @@ impl<'a> Block<'a> {
 
 /// Assembles a source.
 pub fn assemble(src: &[u8]) -> Result<Object, Refusal> {
-    let mut o = Object {
-        counts: [0; 4],
-        blocks: vec![0; raw::BLOCKS],
-        words: vec![0; raw::WORDS],
-        marks: vec![0; raw::WORDS],
-        labels: vec![0; raw::LABELS],
-        relocations: vec![0; raw::RELOCATIONS],
-        names: vec![0; raw::NAMES],
-    };
-    let answer = raw::assemble(
-        src,
-        &mut Buffers {
-            blocks: &mut o.blocks,
-            words: &mut o.words,
-            marks: &mut o.marks,
-            labels: &mut o.labels,
-            relocations: &mut o.relocations,
-            names: &mut o.names,
-        },
-    );
-    o.counts = Refusal::or_counts(&answer)?;
-    o.words.truncate(o.counts[1]);
-    o.marks.truncate(o.counts[1]);
-    Ok(o)
+    let mut o = Object::blank(raw::WORDS);
+    let answer = raw::assemble(src, &mut o.buffers());
+    o.made(&answer)
 }
 
-/// The counts of an answer on an object that `assemble` made, which no call refuses.
+/// The counts of an answer on an object that `assemble` or `link` made, which no lookup and no listing refuses.
 fn counts(answer: Answer) -> [usize; 4] {
     Refusal::or_counts(&answer).expect("an assembled object is an object")
 }
 
 impl Object {
+    /// Buffers with nothing in them: tables of full size, and room for so many words.
+    fn blank(words: usize) -> Object {
+        Object {
+            counts: [0; 4],
+            blocks: vec![0; raw::BLOCKS],
+            words: vec![0; words],
+            marks: vec![0; words],
+            labels: vec![0; raw::LABELS],
+            relocations: vec![0; raw::RELOCATIONS],
+            names: vec![0; raw::NAMES],
+        }
+    }
+
+    fn buffers(&mut self) -> Buffers<'_> {
+        Buffers {
+            blocks: &mut self.blocks,
+            words: &mut self.words,
+            marks: &mut self.marks,
+            labels: &mut self.labels,
+            relocations: &mut self.relocations,
+            names: &mut self.names,
+        }
+    }
+
+    /// What a call has made of its buffers.
+    fn made(mut self, answer: &Answer) -> Result<Object, Refusal> {
+        self.counts = Refusal::or_counts(answer)?;
+        self.words.truncate(self.counts[1]);
+        self.marks.truncate(self.counts[1]);
+        Ok(self)
+    }
+
+    /// Links two objects: the blocks of both, and each name once. A name that is external in one and defined in the other is defined, and each
+    /// word that waits for it is its address.
+    ///
+    /// Refused where they share an address (28), where they define a name at two addresses (25; the first span is `r..r + 1` for the smallest
+    /// such name, which is row r of `a_obj`'s labels) and where the result has more than 64 blocks, 1,024 names or 1,024 relocations (40).
+    /// 41 does not come: blocks that share no address have room.
+    ///
+    /// ```
+    /// let caller = lc3::assemble(b".external F\n.orig x3000\nLD R1, P\nJSRR R1\nHALT\nP .fill F\n.end\n").unwrap();
+    /// let callee = lc3::assemble(b".orig x4000\nF ADD R0, R0, #1\nRET\n.end\n").unwrap();
+    /// let program = lc3::Object::link(&caller, &callee).unwrap();
+    /// assert_eq!(program.words(), [0x2202, 0x4040, 0xF025, 0x4000, 0x1021, 0xC1C0]);
+    /// assert_eq!(program.lookup_label("F"), Some(lc3::Symbol::Defined(0x4000)));
+    /// assert_eq!(program, lc3::Object::link(&callee, &caller).unwrap());
+    /// assert_eq!(lc3::Object::link(&program, &callee).unwrap_err().name(), "OverlappingBlocks");
+    /// ```
+    pub fn link(a_obj: &Object, b_obj: &Object) -> Result<Object, Refusal> {
+        let words = a_obj.words.len() + b_obj.words.len();
+        let mut o = Object::blank(words.min(raw::WORDS));
+        let answer = raw::link(a_obj.lent(), b_obj.lent(), &mut o.buffers());
+        o.made(&answer)
+    }
+
+    /// Links a list of objects, one after another; of none, an object with nothing. The place of 25 is a row of the link of those before.
+    ///
+    /// A list of one or more objects, linked in any order and any grouping, gives one same object or is refused each way; refused exactly when
+    /// two entries share an address or define one name at two addresses; each relocation whose name some entry defines holds that address,
+    /// every other word is as its entry had it. This needs that blocks, labels and relocations, added up over the list, are within 64, 1,024 and
+    /// 1,024; otherwise 40 can come of one grouping and not of another. (Words, of which every link here lends enough, need nothing.)
+    ///
+    /// ```
+    /// let sources = [
+    ///     ".external B\n.orig x3000\nA .fill B\n.end\n",
+    ///     ".external C\n.orig x3001\nB .fill C\n.end\n",
+    ///     ".external A\n.orig x3002\nC .fill A\n.end\n",
+    /// ];
+    /// let objects = sources.map(|src| lc3::assemble(src.as_bytes()).unwrap());
+    /// let all = lc3::Object::link_all(&objects).unwrap();
+    /// assert_eq!(all.words(), [0x3001, 0x3002, 0x3000]);
+    /// assert_eq!(all, lc3::Object::link_all(objects.iter().rev()).unwrap());
+    /// ```
+    pub fn link_all<'a>(objects: impl IntoIterator<Item = &'a Object>) -> Result<Object, Refusal> {
+        let nothing = Object::blank(0);
+        objects.into_iter().try_fold(nothing, |linked, next| Object::link(&linked, next))
+    }
+
     /// The object as the calls over lent buffers take it.
     pub fn lent(&self) -> Lent<'_> {
         Lent {

@@ -60,6 +60,15 @@ mod c {
         lc3_list(text: *mut u8, text_len: usize);
         lc3_lookup_label(name: *const u8, name_len: usize);
         lc3_rev_lookup_label(address: u32);
+        lc3_link(
+            n_blocks2: usize, n_words2: usize, n_labels2: usize, n_relocations2: usize,
+            blocks2: *const u16, blocks2_len: usize, words2: *const u16, words2_len: usize, marks2: *const u8, marks2_len: usize,
+            labels2: *const u32, labels2_len: usize, relocations2: *const u32, relocations2_len: usize,
+            names2: *const u8, names2_len: usize,
+            to_blocks: *mut u16, to_blocks_len: usize, to_words: *mut u16, to_words_len: usize, to_marks: *mut u8, to_marks_len: usize,
+            to_labels: *mut u32, to_labels_len: usize, to_relocations: *mut u32, to_relocations_len: usize,
+            to_names: *mut u8, to_names_len: usize
+        );
     }
     extern "C" {
         pub fn lc3_next_token(src: *const u8, src_len: usize, at: usize, out: *mut [u64; 9]);
@@ -131,7 +140,8 @@ macro_rules! call_on {
     ($name:ident, $o:expr $(, $extra:expr)*) => {{
         let (o, mut out) = ($o, [0; 9]);
         let [blocks, words, labels, relocations] = o.counts;
-        // SAFETY: each buffer is lent whole; the function tests counts and rows itself.
+        // SAFETY: each buffer is lent whole, and one that is written overlaps no other, being borrowed apart; the function tests counts and
+        // rows itself.
         unsafe {
             c::$name(
                 blocks, words, labels, relocations, o.blocks.as_ptr(), o.blocks.len(), o.words.as_ptr(), o.words.len(),
@@ -156,6 +166,19 @@ pub fn lookup_label(o: Lent, name: &[u8]) -> Answer {
 /// The smallest name at an address. Counts: found, label row, the name's start and length.
 pub fn rev_lookup_label(o: Lent, address: u32) -> Answer {
     call_on!(lc3_rev_lookup_label, o, address)
+}
+
+/// Links two objects into a third. Counts: blocks, words, labels, relocations. The first span of 25 is row r of the first object's labels, as
+/// r, r + 1.
+#[rustfmt::skip]
+pub fn link(a: Lent, b: Lent, to: &mut Buffers) -> Answer {
+    call_on!(
+        lc3_link, a, b.counts[0], b.counts[1], b.counts[2], b.counts[3], b.blocks.as_ptr(), b.blocks.len(), b.words.as_ptr(), b.words.len(),
+        b.marks.as_ptr(), b.marks.len(), b.labels.as_ptr(), b.labels.len(), b.relocations.as_ptr(), b.relocations.len(),
+        b.names.as_ptr(), b.names.len(), to.blocks.as_mut_ptr(), to.blocks.len(), to.words.as_mut_ptr(), to.words.len(),
+        to.marks.as_mut_ptr(), to.marks.len(), to.labels.as_mut_ptr(), to.labels.len(), to.relocations.as_mut_ptr(), to.relocations.len(),
+        to.names.as_mut_ptr(), to.names.len()
+    )
 }
 
 /// The instruction of a word. Counts: its code, or 255 for a fill, and up to three operands.

@@ -1,11 +1,14 @@
 //! Each function of the crate on the marked examples of document 01.
 
-use lc3::{assemble, disassemble_line, first_refusal, next_token, tokens, Line, Refusal, Symbol, Token};
+use lc3::{assemble, disassemble_line, first_refusal, next_token, raw, tokens, Line, Object, Refusal, Symbol, Token};
 
 const P1: &[u8] = b".orig x3000\nSTART LEA R0, MSG\nPUTS\nHALT\nMSG .stringz \"Hi\"\n.end\n";
 const P1_LISTING: &str = "BLOCK 3000 0006\n3000 E002\n3001 F022\n3002 F025\n3003 0048\n3004 0069\n3005 0000\n\
     LABEL 3003 MSG\nLABEL 3000 START\n";
 const P2: &[u8] = b".external F\n.orig x3000\nLD R1, P\nJSRR R1\nHALT\nP .fill F\n.end\n";
+const P3: &[u8] = b".orig x4000\nF ADD R0, R0, #1\nRET\n.end\n";
+const P2_P3_LISTING: &str = "BLOCK 3000 0004\n3000 2202\n3001 4040\n3002 F025\n3003 4000\nBLOCK 4000 0002\n4000 1021\n4001 C1C0\n\
+    LABEL 4000 F\nLABEL 3003 P\n";
 
 fn number(src: &str) -> u16 {
     assemble(src.as_bytes()).map_or_else(|r| r.number, |_| 0)
@@ -50,6 +53,64 @@ fn refusals() {
     assert_eq!(first_refusal(b"ADD R0, R0").unwrap().to_string(), "BadStatement (13) at 10..10");
     assert_eq!(first_refusal(b"A HALT"), None);
     assert_eq!(first_refusal(&[b';'; 262_145]).unwrap().name(), "SourceTooLong");
+}
+
+/// The link of two sources that assemble.
+fn linked(a: &[u8], b: &[u8]) -> Result<Object, Refusal> {
+    Object::link(&assemble(a).unwrap(), &assemble(b).unwrap())
+}
+
+#[test]
+fn linking() {
+    assert_eq!(linked(P2, P3).unwrap().list(), P2_P3_LISTING);
+    assert_eq!(linked(P3, P2).unwrap().list(), P2_P3_LISTING);
+    assert_eq!(linked(P3, P3).unwrap_err(), Refusal { number: 28, spans: [0..0, 0..0] });
+    assert_eq!(linked(b"", P2).unwrap(), assemble(P2).unwrap());
+    let open = linked(P2, b".external F\n.orig 0\n.fill F\n.end").unwrap();
+    assert_eq!(open.relocations().collect::<Vec<_>>(), [(0, "F"), (0x3003, "F")]);
+    let zero = linked(P2, b".orig 0\nF .end").unwrap();
+    assert_eq!((zero.words()[3], zero.lookup_label("F"), zero.relocations().count()), (0, Some(Symbol::Defined(0)), 0));
+    let r = linked(b".orig 5\nC A B HALT\n.end", b".orig 6\nB C HALT\n.end").unwrap_err();
+    assert_eq!((r.name(), r.spans), ("OverlappingLabels", [1..2, 0..0]));
+}
+
+#[test]
+fn a_list_linked() {
+    let object = |src: &str| assemble(src.as_bytes()).unwrap();
+    let list =
+        [".external B\n.orig 1\nA .fill B\n.end", ".orig 2\n.blkw 3\nB .end", ".external A\n.orig 9\n.fill A\n.fill 7\n.end"].map(object);
+    let [a, b, c] = &list;
+    let all = Object::link_all(&list).unwrap();
+    assert_eq!(all.addr_iter().collect::<Vec<_>>(), [(1, Some(5)), (2, None), (3, None), (4, None), (9, Some(1)), (10, Some(7))]);
+    for [x, y, z] in [[a, b, c], [a, c, b], [b, a, c], [b, c, a], [c, a, b], [c, b, a]] {
+        assert_eq!(Object::link_all([x, y, z]).unwrap(), all);
+        assert_eq!(Object::link(x, &Object::link(y, z).unwrap()).unwrap(), all);
+    }
+    assert_eq!(Object::link_all([]).unwrap(), object(""));
+    assert_eq!(Object::link_all([a]).unwrap(), *a);
+    let blocks = |at: usize| object(&(at..at + 33).map(|i| format!(".orig {}\nHALT\n.end\n", 2 * i)).collect::<String>());
+    assert_eq!(Object::link_all(&[blocks(0), blocks(33)]).unwrap_err().to_string(), "TableFull (40)");
+}
+
+#[test]
+fn linking_in_lent_buffers() {
+    let (a, b) = (assemble(P2).unwrap(), assemble(P3).unwrap());
+    let number = |words: usize, names: usize, a: raw::Lent| {
+        let (mut blocks, mut labels, mut relocations) = ([7; raw::BLOCKS], [7; raw::LABELS], [7; raw::RELOCATIONS]);
+        let (mut words, mut marks, mut names) = (vec![7; words], vec![7; words], vec![7; names]);
+        let (words, marks, names) = (&mut *words, &mut *marks, &mut *names);
+        let (blocks, labels, relocations) = (&mut blocks[..], &mut labels[..], &mut relocations[..]);
+        let answer = raw::link(a, b.lent(), &mut raw::Buffers { blocks, words, marks, labels, relocations, names });
+        let zero = words.iter().chain(blocks.iter()).all(|n| *n == 0) && labels.iter().chain(relocations.iter()).all(|n| *n == 0);
+        assert_eq!(zero && marks.iter().chain(names.iter()).all(|n| *n == 0), answer[0] != 0);
+        answer[0]
+    };
+    assert_eq!([6, 5].map(|words| number(words, raw::NAMES, a.lent())), [0, 41]);
+    assert_eq!(number(6, raw::NAMES - 1, a.lent()), 42);
+    let mut bad = a.lent();
+    bad.counts[3] = 2;
+    assert_eq!(number(6, raw::NAMES, bad), 43);
+    assert_eq!(number(6, raw::NAMES - 1, bad), 42);
 }
 
 #[test]

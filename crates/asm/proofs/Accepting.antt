@@ -1,19 +1,19 @@
 -- What a call accepts is a good object in its one layout; a refusal leaves all zero; two answers that the contract allows are equal. Assumes nothing.
-use mathlib.Core.Path.{_≡_, refl, sym, _∙_}
+use mathlib.Core.Path.{_≡_, refl}
 use mathlib.Core.Bool.{Bool, true, false}
 use mathlib.Core.List.{List}
 use Prim.Native.Nat.{ℕ}
 use Rattle.rules.specs.Base.{if_then_else_, ok, refused, Refusal, refuse, nowhere}
-use Rattle.rules.specs.Answers.{answer}
 use Rattle.rules.specs.Objects.{Object, nothing}
 use Rattle.rules.specs.Buffers.{Buffers, short, lentWords, layout}
 use Rattle.rules.specs.Passes.{assemble}
 use Rattle.rules.specs.Calls.{ofBytes}
-use Rattle.rules.proofs.Fits.{layout-valid}
 use Rattle.rules.proofs.Bools.{never}
 use Rattle.laws_accepted.proofs.Accepted.{accepted-good, accepted-fits}
-use Rattle.asm.specs.declared.Answer.{Answer}
-use Rattle.asm.specs.Call.{meant, called, Leaves, Assembled, AcceptedCall}
+use Rattle.object_answer.specs.declared.Answer.{Answer}
+use Rattle.object_answer.specs.Meant.{Leaves, AcceptedCall}
+use Rattle.object_answer.proofs.Leaving.{accepted-left, left-once}
+use Rattle.asm.specs.Call.{called, Assembled}
 
 -- what the call accepts, the rule accepts, in buffers that are long enough
 called-accepts : (b : Buffers) (s : List ℕ) (o : Object) → called b s ≡ ok o → (short b ≡ false) × (assemble (lentWords (b .words) (b .marks)) s ≡ ok o)
@@ -25,30 +25,14 @@ called-accepts b s o e = go (short b) refl e
     go false q x = (q, x)
 
 pub accepted-call : (b : Buffers) (s : List ℕ) (r : Answer) (b′ : Buffers) (o : Object) → Assembled b s r b′ → called b s ≡ ok o → AcceptedCall b r b′ o
-unfolding answer
 accepted-call b s r b′ o h e =
     let c = called-accepts b s o e in
     let g = accepted-good (lentWords (b .words) (b .marks)) s o (c .1) in
     let l : Leaves (ok o) b r b′ = rw e at h in
-    let v = layout-valid o b g (c .0) (accepted-fits (lentWords (b .words) (b .marks)) s o (c .1)) in
-    record { good = g; laid = l .buffers; counts = l .answer; valid = rw (l .buffers) v }
+    accepted-left b r b′ o l g (c .0) (accepted-fits (lentWords (b .words) (b .marks)) s o (c .1))
 
 pub refused-call : (b : Buffers) (s : List ℕ) (r : Answer) (b′ : Buffers) (q : Refusal) → Assembled b s r b′ → called b s ≡ refused q → b′ ≡ layout nothing b
 refused-call b s r b′ q h e = let l : Leaves (refused q) b r b′ = rw e at h in l .buffers
 
--- one answer
-answer-back : (r t : Answer) → meant r ≡ meant t → r ≡ t
-answer-back r t e = λ i. record {
-  number = e i .number;
-  start = e i .first .start;
-  end = e i .first .stop;
-  start2 = e i .second .start;
-  end2 = e i .second .stop;
-  blocks = e i .counts .blocks;
-  words = e i .counts .words;
-  labels = e i .counts .labels;
-  relocations = e i .counts .relocs;
-}
-
 pub assembled-once : (b : Buffers) (s : List ℕ) (r t : Answer) (x y : Buffers) → Assembled b s r x → Assembled b s t y → (r ≡ t) × (x ≡ y)
-assembled-once b s r t x y p q = (answer-back r t (p .answer ∙ sym (q .answer)), p .buffers ∙ sym (q .buffers))
+assembled-once b s r t x y p q = left-once (called b s) b r t x y p q

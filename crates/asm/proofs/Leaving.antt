@@ -2,24 +2,22 @@
 use mathlib.Core.Path.{_≡_, sym, ap}
 use mathlib.Core.List.{List}
 use Prim.Native.Nat.{ℕ}
-use Rattle.rules.specs.Base.{Outcome, ok, refuse2, span}
+use Rattle.rules.specs.Base.{Outcome, ok}
 use Rattle.rules.specs.Answers.{answer}
 use Rattle.rules.specs.Answers as rule
 use Rattle.rules.specs.Statements.{Stmt, statements}
-use Rattle.rules.specs.Objects.{Object, nothing}
-use Rattle.rules.specs.Buffers.{Buffers, layout}
+use Rattle.rules.specs.Objects.{Object}
+use Rattle.rules.specs.Buffers.{Buffers}
 use Rattle.pass1_state.specs.declared.Pass1State as code
 use Rattle.pass2_statement.specs.declared.Pass2State.{Pass2State}
 use Rattle.pass2_statement.specs.declared.Pass2Step.{Pass2Step}
 use Rattle.pass2_statement.specs.declared.Pass2Step.the-variants.{Went, Refused}
 use Rattle.pass1_fill.specs.Tables.{seen}
 use Rattle.asm_second_half.specs.Made.{afterPass2, Making, Made}
-use Rattle.asm.specs.declared.Answer.{Answer}
-use Rattle.asm.specs.Call.{meant, accepting, refusing, Leaves}
-
-pub leaves-refused : (n a e b f : ℕ) (p q : Buffers) → q ≡ layout nothing p → (r : Answer) → r ≡ refusing n a e b f → Leaves (refuse2 n (span a e) (span b f)) p r q
-unfolding answer
-leaves-refused n a e b f p q h r k = record { answer = ap meant k; buffers = h }
+use Rattle.object_answer.specs.declared.Answer.{Answer}
+use Rattle.object_answer.specs.Meant.{refusing, Leaves}
+use Rattle.object_answer.proofs.Leaving.{leaves-refused}
+use Rattle.asm.specs.Call.{accepting}
 
 -- PASS TWO
 module _ (rs qs src : List ℕ) (o : code.Pass1State) (b : Buffers) (z : Pass2Step) (x : Buffers) (h : Made rs qs src o b z x) where

@@ -19,8 +19,9 @@ use Rattle.asm_first_half.specs.Tabled.{Begun}
 use Rattle.asm_first_half.specs.Starting.{calling, Started}
 use Rattle.asm_first_half.proofs.Started.{calling-long}
 use Rattle.asm_second_half.specs.Made.{afterPass2}
-use Rattle.asm.specs.declared.Answer.{Answer}
-use Rattle.asm.specs.Call.{called, Leaves, Assembled}
+use Rattle.object_answer.specs.declared.Answer.{Answer}
+use Rattle.object_answer.specs.Meant.{Leaves}
+use Rattle.asm.specs.Call.{called, Assembled}
 
 -- PASS TWO, WHERE THE LENT WORDS HOLD ALL
 with-room : (room : ℕ) (rs qs s : List ℕ) (o : code.Pass1State) (g : Begun rs qs s o) → o .words ≤ room → assemble room s ≡ afterPass2 (g .readable .stmts) (seen rs qs s o)

@@ -1,48 +1,23 @@
 -- The call that assembles: what it answers, and what it leaves in the six lent buffers. Assumes nothing.
-use mathlib.Core.Path.{_≡_}
 use mathlib.Core.List.{List}
 use Prim.Native.Nat.{ℕ}
-use Rattle.rules.specs.Base.{Outcome, span}
-use Rattle.rules.specs.Answers as rule
-use Rattle.rules.specs.Objects.{Object, countsOf, Good}
-use Rattle.rules.specs.Buffers.{Buffers, lentWords, layout, Valid}
-use Rattle.rules.specs.Calls.{ofBytes, Makes}
+use Rattle.rules.specs.Base.{Outcome}
+use Rattle.rules.specs.Objects.{Object}
+use Rattle.rules.specs.Buffers.{Buffers, lentWords}
+use Rattle.rules.specs.Calls.{ofBytes}
 use Rattle.rules.specs.Passes.{assemble}
 use Rattle.pass1_state.specs.declared.Pass1State.{Pass1State}
 use Rattle.pass2_statement.specs.declared.Pass2State.{Pass2State}
-use Rattle.asm.specs.declared.Answer.{Answer}
-
--- the answer in the rules' words
-abbrev pub meant : Answer → rule.Answer
-meant r = record {
-  number = r .number;
-  first = span (r .start) (r .end);
-  second = span (r .start2) (r .end2);
-  counts = record { blocks = r .blocks; words = r .words; labels = r .labels; relocs = r .relocations };
-}
+use Rattle.object_answer.specs.declared.Answer.{Answer}
+use Rattle.object_answer.specs.Meant.{Leaves}
 
 -- of an object with these tables and blocks
 abbrev pub accepting : Pass1State → Pass2State → Answer
 accepting o t = record { number = 0; start = 0; end = 0; start2 = 0; end2 = 0; blocks = t .blocks; words = t .used; labels = o .labels; relocations = o .relocations }
 
--- of a refusal
-abbrev pub refusing : (n a e b f : ℕ) → Answer
-refusing n a e b f = record { number = n; start = a; end = e; start2 = b; end2 = f; blocks = 0; words = 0; labels = 0; relocations = 0 }
-
 -- a call that is lent a source and buffers for an object
 unfoldable pub called : Buffers → List ℕ → Outcome Object
 called b s = ofBytes b (assemble (lentWords (b .words) (b .marks)) s)
 
--- what a stage answers of buffers b and leaves in them, where the rule's outcome is o
-abbrev pub Leaves : Outcome Object → Buffers → Answer → Buffers → Type 0
-Leaves o b r b′ = Makes o b (meant r) b′
-
 abbrev pub Assembled : Buffers → List ℕ → Answer → Buffers → Type 0
 Assembled b s r b′ = Leaves (called b s) b r b′
-
--- what an accepted call leaves: a good object in its one layout, valid, with its counts
-pub record AcceptedCall (b : Buffers) (r : Answer) (b′ : Buffers) (o : Object) : Type 0 where
-  pub good : Good o
-  pub laid : b′ ≡ layout o b
-  pub counts : meant r ≡ rule.accepted (countsOf o)
-  pub valid : Valid (countsOf o) b′

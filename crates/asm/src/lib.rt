@@ -1,4 +1,6 @@
 // Assembling: any source to an object in lent buffers, or one refusal and every buffer zero.
+use object_answer::Answer;
+use object_answer::refusal;
 use pass1_state::Pass1State;
 use pass1_state::Pass1Step;
 use pass2_statement::Pass2State;
@@ -10,40 +12,11 @@ ghost use Prim.Native.Nat.{_≤_};
 ghost use Rattle.rules.specs.Base.{ok};
 ghost use Rattle.rules.specs.Statements.{Stmt, statements};
 ghost use Rattle.rules.specs.Buffers.{six, short, lentWords};
+ghost use Rattle.object_answer.specs.Meant.{Leaves};
 ghost use Rattle.pass1_fill.specs.Tables.{seen};
 ghost use Rattle.asm_first_half.specs.Tabled.{Begun};
 ghost use Rattle.asm_second_half.specs.Made.{afterPass2};
-ghost use Rattle.asm.specs.Call.{Leaves, Assembled, accepting, refusing};
-
-// Number 0 is acceptance, with counts; any other is a refusal with its two places, and counts of 0.
-pub struct Answer {
-    pub number: u16,
-    pub start: usize,
-    pub end: usize,
-    pub start2: usize,
-    pub end2: usize,
-    pub blocks: usize,
-    pub words: usize,
-    pub labels: usize,
-    pub relocations: usize,
-}
-
-// The answer of a refusal.
-fn refusal(number: u16, start: usize, end: usize, start2: usize, end2: usize) -> Answer
-    ensures { λ r. ⌜ r ≡ refusing number start end start2 end2 ⌝ }
-{
-    Answer {
-        number,
-        start,
-        end,
-        start2,
-        end2,
-        blocks: 0,
-        words: 0,
-        labels: 0,
-        relocations: 0,
-    }
-}
+ghost use Rattle.asm.specs.Call.{Assembled, accepting};
 
 // An object with these tables and blocks.
 fn accepted(o: Pass1State, t: Pass2State) -> Answer

@@ -16,6 +16,7 @@ use Rattle.parse.specs.Coded.{codedStatements, sourceStatements}
 use Rattle.parse.specs.declared.Statements.{Statements}
 use Rattle.rules.specs.Calls.{OfObject, too-short, bad-object, on-object}
 use Rattle.rules.proofs.Bools.{never}
+use Rattle.link.specs.Call.{Linked}
 use Rattle.list.specs.Call.{Called}
 use Rattle.list.specs.declared.Listed.{Listed}
 use Rattle.object_lookup.specs.Told.{said, found, Reversed}
@@ -23,11 +24,11 @@ use Rattle.object_lookup.specs.declared.Said.{Said}
 use Rattle.object_lookup.specs.declared.Found.{Found}
 use Rattle.object_lookup.specs.declared.Found.the-variants as find
 use Rattle.laws.proofs.Single.{Single, source-single}
-use Rattle.asm.specs.Call.{Leaves}
-use Rattle.asm.specs.declared.Answer as asm
+use Rattle.object_answer.specs.declared.Answer as object_answer
+use Rattle.object_answer.specs.Meant.{Leaves}
 use Rattle.lc3_answers.specs.declared.Reply.{Reply}
 use Rattle.lc3_answers.specs.Told.{reply, row, four, answered, nextTold, statementsTold, listedTold, saidTold, RowIn, foundTold, lineTold}
-use Rattle.lc3.specs.Calls.{checked, ListCall, LookupCall, RevLookupCall}
+use Rattle.lc3.specs.Calls.{checked, LinkCall, ListCall, LookupCall, RevLookupCall}
 
 -- the numbers put are those of the answer
 put : {r : Reply} {a : Answer} {out : List ℕ} → r ≡ reply a → out ≡ row r → out ≡ numbers a
@@ -54,7 +55,11 @@ module _ {r : Reply} {out : List ℕ} (p : out ≡ row r) where
   pub line-put : {n m : R.Line} → n ≡ m → r ≡ reply (lineTold n) → out ≡ numbers (lineTold m)
   line-put q e = put (e ∙ ap (λ (x : R.Line). reply (lineTold x)) q) p
 
-  pub assembled-put : {o : Outcome Object} {b b′ : Buffers} {a : asm.Answer} → Leaves o b a b′
+  pub linked-put : {c : Counts} {b : Buffers} {d : Counts} {e o o′ : Buffers} {a : object_answer.Answer} → Linked c b d e o a o′
+      → r ≡ reply (answered (a .number) (span (a .start) (a .end)) (span (a .start2) (a .end2)) (four (a .blocks) (a .words) (a .labels) (a .relocations))) → LinkCall c b d e o o′ out
+  linked-put l q = record { outcome = l .outcome; lent = l .is; answered = put (q ∙ ap reply (l .leaves .answer)) p; left = l .leaves .buffers }
+
+  pub assembled-put : {o : Outcome Object} {b b′ : Buffers} {a : object_answer.Answer} → Leaves o b a b′
       → r ≡ reply (answered (a .number) (span (a .start) (a .end)) (span (a .start2) (a .end2)) (four (a .blocks) (a .words) (a .labels) (a .relocations))) → out ≡ numbers (answer o)
   assembled-put l e = put (e ∙ ap reply (l .answer)) p
 

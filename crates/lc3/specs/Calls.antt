@@ -5,11 +5,12 @@ use mathlib.Core.List.{List}
 use mathlib.Core.Option.{Option}
 use Rattle.rules.specs.Base.{Outcome, ok, refused}
 use Rattle.rules.specs.Statements.{Stmt}
-use Rattle.rules.specs.Objects.{Lab, Counts, lookupLabel}
+use Rattle.rules.specs.Objects.{Lab, Object, Counts, lookupLabel}
 use Rattle.rules.specs.Buffers.{Buffers, view}
-use Rattle.rules.specs.Answers.{Answer, numbers, accepted, noCounts, refusal}
-use Rattle.rules.specs.Calls.{OfObject}
+use Rattle.rules.specs.Answers.{Answer, answer, numbers, accepted, noCounts, refusal}
+use Rattle.rules.specs.Calls.{OfObject, leftObject}
 use Rattle.rules.proofs.Calls.{answered-once}
+use Rattle.link.specs.Call.{Outcomes}
 use Rattle.list.specs.Call.{Called, one-answer, one-buffer}
 use Rattle.list.specs.declared.Listed.{Listed}
 use Rattle.object_lookup.specs.Told.{Reversed}
@@ -21,6 +22,13 @@ use Rattle.lc3_answers.specs.Told.{listedTold, saidTold, foundTold}
 abbrev pub checked : Outcome (List Stmt) → Answer
 checked (ok ss) = accepted noCounts
 checked (refused r) = refusal r
+
+-- two objects into a third, whose buffers hold out and then out′
+pub record LinkCall (c : Counts) (b : Buffers) (d : Counts) (e out out′ : Buffers) (told : List ℕ) : Type 0 where
+  pub outcome : Outcome Object
+  pub lent : Outcomes c b d e out outcome
+  pub answered : told ≡ numbers (answer outcome)
+  pub left : out′ ≡ leftObject outcome out
 
 -- the listing, its bytes in `text` of `len` bytes, zeros after them
 pub record ListCall (c : Counts) (b : Buffers) (len : ℕ) (text out : List ℕ) : Type 0 where
@@ -41,6 +49,13 @@ pub record RevLookupCall (c : Counts) (b : Buffers) (a : ℕ) (out : List ℕ) :
   pub told : out ≡ numbers (foundTold (b .labels) found)
 
 -- TWO ANSWERS THAT A CONTRACT ALLOWS ARE EQUAL
+module _ {c : Counts} {b : Buffers} {d : Counts} {e out : Buffers} where
+  pub link-call-once : {x y : Buffers} {told also : List ℕ} → LinkCall c b d e out x told → LinkCall c b d e out y also → told ≡ also
+  link-call-once p q = p .answered ∙ (ap (λ (o : Outcome Object). numbers (answer o)) (answered-once (p .lent) (q .lent)) ∙ sym (q .answered))
+
+  pub link-object-once : {x y : Buffers} {told also : List ℕ} → LinkCall c b d e out x told → LinkCall c b d e out y also → x ≡ y
+  link-object-once p q = p .left ∙ (ap (λ (o : Outcome Object). leftObject o out) (answered-once (p .lent) (q .lent)) ∙ sym (q .left))
+
 module _ {c : Counts} {b : Buffers} where
   pub list-call-once : {len : ℕ} {x y out also : List ℕ} → ListCall c b len x out → ListCall c b len y also → out ≡ also
   list-call-once p q = p .told ∙ (ap (λ (r : Listed). numbers (listedTold r)) (one-answer (p .called) (q .called)) ∙ sym (q .told))

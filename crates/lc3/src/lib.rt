@@ -11,7 +11,7 @@ ghost use Rattle.parse.specs.Coded.{sourceStatements};
 ghost use Rattle.rules.specs.Calls.{leftObject};
 ghost use Rattle.asm.specs.Call.{called};
 ghost use Rattle.lc3_answers.specs.Told.{four, nextTold, lineTold};
-ghost use Rattle.lc3.specs.Calls.{checked, ListCall, LookupCall, RevLookupCall};
+ghost use Rattle.lc3.specs.Calls.{checked, LinkCall, ListCall, LookupCall, RevLookupCall};
 
 // The next token from `at` on: its place, its sort and its value; or its refusal.
 #[no_mangle]
@@ -66,6 +66,87 @@ pub extern "C" fn lc3_assemble(
         a.words,
         a.labels,
         a.relocations,
+    );
+    lc3_answers::put_answer(out, r);
+}
+
+// Two lent objects into a third, in the lent buffers: the counts of blocks, words, labels and relocations; or one refusal, and every buffer zero.
+#[no_mangle]
+pub extern "C" fn lc3_link(
+    n_blocks1: usize,
+    n_words1: usize,
+    n_labels1: usize,
+    n_relocations1: usize,
+    blocks1: &[u16],
+    words1: &[u16],
+    marks1: &[u8],
+    labels1: &[u32],
+    relocations1: &[u32],
+    names1: &[u8],
+    n_blocks2: usize,
+    n_words2: usize,
+    n_labels2: usize,
+    n_relocations2: usize,
+    blocks2: &[u16],
+    words2: &[u16],
+    marks2: &[u8],
+    labels2: &[u32],
+    relocations2: &[u32],
+    names2: &[u8],
+    blocks: &mut [u16],
+    words: &mut [u16],
+    marks: &mut [u8],
+    labels: &mut [u32],
+    relocations: &mut [u32],
+    names: &mut [u8],
+    out: &mut [u64; 9],
+)
+    ensures { λ _. ⌜ LinkCall (four «n_blocks1» «n_words1» «n_labels1» «n_relocations1») (six (now (blocks1 .entry)) (now (words1 .entry)) (now (marks1 .entry)) (now (labels1 .entry)) (now (relocations1 .entry)) (now (names1 .entry))) (four «n_blocks2» «n_words2» «n_labels2» «n_relocations2») (six (now (blocks2 .entry)) (now (words2 .entry)) (now (marks2 .entry)) (now (labels2 .entry)) (now (relocations2 .entry)) (now (names2 .entry))) (six (now (blocks .entry)) (now (words .entry)) (now (marks .entry)) (now (labels .entry)) (now (relocations .entry)) (now (names .entry))) (six (now (blocks .exit)) (now (words .exit)) (now (marks .exit)) (now (labels .exit)) (now (relocations .exit)) (now (names .exit))) (now (out .exit)) ⌝ }
+{
+    let first = Counts {
+        blocks: n_blocks1,
+        words: n_words1,
+        labels: n_labels1,
+        relocations: n_relocations1,
+    };
+    let second = Counts {
+        blocks: n_blocks2,
+        words: n_words2,
+        labels: n_labels2,
+        relocations: n_relocations2,
+    };
+    let linked = link::link(
+        first,
+        blocks1,
+        words1,
+        marks1,
+        labels1,
+        relocations1,
+        names1,
+        second,
+        blocks2,
+        words2,
+        marks2,
+        labels2,
+        relocations2,
+        names2,
+        blocks,
+        words,
+        marks,
+        labels,
+        relocations,
+        names,
+    );
+    let r = lc3_answers::told_answer(
+        linked.number,
+        linked.start,
+        linked.end,
+        linked.start2,
+        linked.end2,
+        linked.blocks,
+        linked.words,
+        linked.labels,
+        linked.relocations,
     );
     lc3_answers::put_answer(out, r);
 }

@@ -1,5 +1,4 @@
-// An assembled source printed on standard output: the object's listing, or REFUSED and the number.
-use asm::Answer;
+// What a call that makes an object answers, printed on standard output: the object's listing, or REFUSED and the number.
 use base_capacities::BLOCKS;
 use base_capacities::LABELS;
 use base_capacities::NAME_BYTES;
@@ -11,6 +10,7 @@ use list_lines::WORD_LINE_BYTES;
 use list_sections::LABEL_LINE_REST;
 use list_sections::RELOCATION_LINE_REST;
 use object::Counts;
+use object_answer::Answer;
 
 // How many words the program's object may have.
 const WORDS: usize = 32768;
@@ -74,6 +74,31 @@ fn print_object(
     print_listed(listed, &text);
 }
 
+// What a call has answered: the listing of the object that it left in these buffers, or its refusal.
+pub fn print_answer(
+    answer: Answer,
+    blocks: &[u16],
+    words: &[u16],
+    marks: &[u8],
+    labels: &[u32],
+    relocations: &[u32],
+    names: &[u8],
+) {
+    if answer.number == 0 {
+        print_object(
+            counts_of(answer),
+            blocks,
+            words,
+            marks,
+            labels,
+            relocations,
+            names,
+        );
+        return;
+    }
+    print_refused(answer.number as u64);
+}
+
 // A source in the program's words.
 pub fn print_source(src: &[u8]) {
     let mut blocks = [0u16; object::BLOCK_ROOM];
@@ -91,17 +116,13 @@ pub fn print_source(src: &[u8]) {
         &mut relocations,
         &mut names,
     );
-    if answer.number == 0 {
-        print_object(
-            counts_of(answer),
-            &blocks,
-            &words,
-            &marks,
-            &labels,
-            &relocations,
-            &names,
-        );
-        return;
-    }
-    print_refused(answer.number as u64);
+    print_answer(
+        answer,
+        &blocks,
+        &words,
+        &marks,
+        &labels,
+        &relocations,
+        &names,
+    );
 }

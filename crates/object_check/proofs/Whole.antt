@@ -67,6 +67,30 @@ module _ {c : Counts} {b : Buffers} (r : Checked) (l : OfObject c b (ok tt) (out
       go (bad-object p n e) = p
       go (on-object p v e) = p
 
+  pub checked-short : r ≡ ShortBuffer → short b ≡ true
+  checked-short q = go l
+    where
+      go : OfObject c b (ok tt) (outcome r) → short b ≡ true
+      go (too-short p e) = p
+      go (bad-object p n e) = absurd (let z = ap numberOf (sym (ap outcome q) ∙ e) in omega arith)
+      go (on-object p v e) = absurd (let z = ap numberOf (sym (ap outcome q) ∙ e) in omega arith)
+
+  pub checked-wide : r ≡ BadObject → short b ≡ false
+  checked-wide q = go l
+    where
+      go : OfObject c b (ok tt) (outcome r) → short b ≡ false
+      go (too-short p e) = absurd (let z = ap numberOf (sym (ap outcome q) ∙ e) in omega arith)
+      go (bad-object p n e) = p
+      go (on-object p v e) = p
+
+  pub checked-bad : r ≡ BadObject → Valid c b → ⊥
+  checked-bad q = go l
+    where
+      go : OfObject c b (ok tt) (outcome r) → Valid c b → ⊥
+      go (too-short p e) = absurd (let z = ap numberOf (sym (ap outcome q) ∙ e) in omega arith)
+      go (bad-object p n e) = n
+      go (on-object p v e) = absurd (let z = ap numberOf (sym (ap outcome q) ∙ e) in omega arith)
+
   -- a call that goes on with the object, and one that hands on the refusal
   pub goes-on : {A : Type 0} {rule x : Outcome A} → r ≡ Object → x ≡ rule → OfObject c b rule x
   goes-on q e = on-object (checked-long q) (checked-valid q) e

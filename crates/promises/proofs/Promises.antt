@@ -2,7 +2,8 @@
 -- that of crate `rules`, what the answers of a crate's code mean in that crate's own. Assumes nothing.
 use Prim.Native.Nat.{ℕ, _^_, _≤_, _<_}
 use mathlib.Core.Bool.{Bool, true, false}
-use mathlib.Core.List.{List, [], _∷_, map}
+use mathlib.Core.List.{List, [], _∷_, map, List·Memᴰ, List·Permᴰ}
+use mathlib.Core.Logic.{_↔_}
 use mathlib.Core.Option.{none, some}
 use mathlib.Core.Path.{_≡_, sym, _∙_}
 use lib.ListN.{length, getD}
@@ -10,8 +11,9 @@ use Rattle.rules.specs.Tokens.{Match, tokenAt, tokenIn, upper, nextToken, lexed
 use Rattle.rules.specs.Tokens as Kinds
 use Rattle.rules.specs.Patterns.{patterns, LongestMatch}
 use Rattle.rules.specs.Examples.{EveryRow}
-use Rattle.rules.specs.Base.{Outcome, ok, refused, Refusal, span, nowhere, verdict}
+use Rattle.rules.specs.Base.{Outcome, ok, refused, refuse, Refusal, span, nowhere, offsetAt, verdict}
 use Rattle.rules.specs.Passes.{assemble}
+use Rattle.rules.specs.Linking.{link}
 use Rattle.rules.specs.Statements.{Name, nameAt, pastLines, pastLabel, labelsAt, Read, GoesOn, nextStatement, statements}
 use Rattle.rules.specs.Words as R
 use Rattle.rules.specs.Words.{Range, signed, offset, fits, reach, field, extend, Width, Instr, word, disassemble, line, Shown}
@@ -50,9 +52,26 @@ use Rattle.rules.proofs.Laid as Laid
 use Rattle.rules.proofs.Sound as Sound
 use Rattle.rules.proofs.Fits as Fits
 use Rattle.rules.proofs.Calls as Calling
-use Rattle.asm.specs.declared.Answer as Assembling
+use Rattle.object_answer.specs.declared.Answer as Making
 use Rattle.asm.proofs.Accepting as Accepting
 use Rattle.laws_accepted.proofs.Accepted as Assembly
+use Rattle.laws_link.specs.Ways.{Way, node, entries, run, Lends, AllGood, Room, OneSame, Refused}
+use Rattle.laws_link.specs.Joins.{TwoClash, Joins}
+use Rattle.laws_link.specs.Obtained.{Obtained}
+use Rattle.rules.specs.Stored.{stored, check}
+use Rattle.laws_stored.specs.Beginnings.{AreBytes, FirstBreak, ObjectOrFifty}
+use Rattle.laws_stored.specs.Sizes.{mostBytes}
+use Rattle.laws_stored.proofs.Promised as StoredForm
+use Rattle.laws_stored.proofs.First as StoredFirst
+use Rattle.laws_stored.proofs.Most as StoredMost
+use Rattle.laws_stored.proofs.Reached as StoredReached
+use Rattle.laws_stored.proofs.Checking as StoredSteps
+use Rattle.laws_link.proofs.Demand as Demand
+use Rattle.laws_link.proofs.Obtaining as Obtaining
+use Rattle.link.specs.Call.{Outcomes, Linked}
+use Rattle.link.specs.CarriedOut.{EntriesLent, Lendable, Ends, stands, CarriedOut, Tells, Alike, Stopped, SameContents, SameSizes}
+use Rattle.link.proofs.Accepting as Linking
+use Rattle.link.proofs.Carrying as Carrying
 use Rattle.isa_fields.specs.Fields.{encoded, meantOffset}
 use Rattle.isa.specs.Instructions.{meant}
 use Rattle.isa.specs.Disassembly.{meantIf, meantLine}
@@ -75,10 +94,11 @@ use Rattle.object_lookup.specs.declared.Said.{Said}
 use Rattle.object_lookup.specs.declared.Found.{Found}
 use Rattle.object_lookup.proofs.Once as Lookup
 use Rattle.rules.specs.Answers.{numbers, answer}
-use Rattle.asm.specs.Call.{called, Assembled, AcceptedCall}
+use Rattle.object_answer.specs.Meant.{AcceptedCall}
+use Rattle.asm.specs.Call.{called, Assembled}
 use Rattle.lc3_answers.specs.Told as Told
 use Rattle.lc3.specs.Calls as Calls
-use Rattle.lc3.specs.Calls.{checked, ListCall, LookupCall, RevLookupCall}
+use Rattle.lc3.specs.Calls.{checked, LinkCall, ListCall, LookupCall, RevLookupCall}
 
 -- TOKENS. Each token is the longest match of the patterns of lex.rs at its place, at equal length of the pattern declared first:
 -- a number or register before a word. It is so of every first byte and every rest, and there is one longest match only.
@@ -235,17 +255,160 @@ value-one-answer = FieldsOf.value-one-answer
 pub accepted-object-good : (room : ℕ) (s : List ℕ) (o : Object) → assemble room s ≡ ok o → Good o
 accepted-object-good = Assembly.accepted-good
 
-pub assemble-accepts : (b : Buffers) (s : List ℕ) (r : Assembling.Answer) (x : Buffers) (o : Object) → Assembled b s r x → called b s ≡ ok o → AcceptedCall b r x o
+pub assemble-accepts : (b : Buffers) (s : List ℕ) (r : Making.Answer) (x : Buffers) (o : Object) → Assembled b s r x → called b s ≡ ok o → AcceptedCall b r x o
 assemble-accepts = Accepting.accepted-call
 
-pub assemble-refuses : (b : Buffers) (s : List ℕ) (r : Assembling.Answer) (x : Buffers) (q : Refusal) → Assembled b s r x → called b s ≡ refused q → x ≡ layout nothing b
+pub assemble-refuses : (b : Buffers) (s : List ℕ) (r : Making.Answer) (x : Buffers) (q : Refusal) → Assembled b s r x → called b s ≡ refused q → x ≡ layout nothing b
 assemble-refuses = Accepting.refused-call
 
-pub assemble-one-answer : (b : Buffers) (s : List ℕ) (r t : Assembling.Answer) (x y : Buffers) → Assembled b s r x → Assembled b s t y → (r ≡ t) × (x ≡ y)
+pub assemble-one-answer : (b : Buffers) (s : List ℕ) (r t : Making.Answer) (x y : Buffers) → Assembled b s r x → Assembled b s t y → (r ≡ t) × (x ≡ y)
 assemble-one-answer = Accepting.assembled-once
 
+-- LINKING, `link::link`. The third demand: a list of one or more objects, assembled, loaded or linked, and linked in any order and any grouping, gives one same object, or is
+-- refused each way. A way is an order and a grouping, with the words lent to each of its links; its entries are the list in some order.
+-- What is assembled, loaded, or linked from such objects is good, and so is what one link accepts.
+pub obtained-object-good : (o : Object) → Obtained o → Good o
+obtained-object-good = Obtaining.obtained-good Assembly.accepted-good StoredForm.checked-good
+
+pub obtained-list-good : (l : List Object) → ((e : Object) → List·Memᴰ e l → Obtained e) → AllGood l
+obtained-list-good = Obtaining.all-obtained-good Assembly.accepted-good StoredForm.checked-good
+
+pub linked-object-good : (room : ℕ) (a b o : Object) → Good a → Good b → link room a b ≡ ok o → Good o
+linked-object-good = Demand.link-good
+
+-- One same object, or refused each way, where blocks, words, labels and relocations, added up over the list, are within the capacities and the words lent to each link.
+pub any-order-and-grouping :
+    (w : ℕ) (l : List Object) → AllGood l → Room w l → (s t : Way) → Lends w s → Lends w t → List·Permᴰ (entries s) l → List·Permᴰ (entries t) l → OneSame (run s) (run t)
+any-order-and-grouping = Demand.one-same
+
+-- Refused exactly when two entries share an address or define one name at two addresses, where there is that room; and where two do, whatever is lent.
+pub refused-exactly-on-clash : (w : ℕ) (l : List Object) → AllGood l → Room w l → (t : Way) → Lends w t → List·Permᴰ (entries t) l → Refused (run t) ↔ TwoClash l
+refused-exactly-on-clash = Demand.refused-exactly
+
+pub clash-is-refused : (l : List Object) → AllGood l → (t : Way) → List·Permᴰ (entries t) l → TwoClash l → Refused (run t)
+clash-is-refused = Demand.clash-refused
+
+-- In the object each relocation whose name some entry defines holds that address, and every other word is as its entry had it: what a way accepts is what the entries make
+-- together, whatever is lent; they make one object at most; and where no two of them clash and there is that room, every way gives it.
+pub accepted-is-what-they-make : (l : List Object) → AllGood l → (t : Way) → List·Permᴰ (entries t) l → (o : Object) → run t ≡ ok o → Joins l o
+accepted-is-what-they-make = Demand.gives-what-they-make
+
+pub they-make-one-object : (l : List Object) (o p : Object) → Good o → Good p → Joins l o → Joins l p → o ≡ p
+they-make-one-object = Demand.one-object
+
+pub every-way-makes-it :
+    (w : ℕ) (l : List Object) → AllGood l → Room w l → (TwoClash l → ⊥) → (t : Way) → Lends w t → List·Permᴰ (entries t) l → (o : Object) × (run t ≡ ok o) × Good o × Joins l o
+every-way-makes-it = Demand.made
+
+-- So two ways of one list that are both accepted give one same object, whatever is lent to either.
+pub accepted-ways-agree :
+    (l : List Object) → AllGood l → (s t : Way) → List·Permᴰ (entries s) l → List·Permᴰ (entries t) l → (o p : Object) → run s ≡ ok o → run t ≡ ok p → o ≡ p
+accepted-ways-agree = Demand.accepted-alike
+
+-- A list of one gives its entry; and each list of one or more has a way.
+pub list-of-one : (e : Object) (t : Way) → List·Permᴰ (entries t) (e ∷ []) → run t ≡ ok e
+list-of-one = Demand.one-alone
+
+pub list-has-a-way : (w : ℕ) (e : Object) (l : List Object) → (t : Way) × Lends w t × (entries t ≡ e ∷ l)
+list-has-a-way = Demand.some-way
+
+-- THE CODE OF LINKING, crate `link`. What the call accepts is the rule's object in its one layout, good, valid, with its counts (the words of a buffer of u16 are below 65536);
+-- a refusal leaves every buffer zero; two answers that the contract allows are equal, and so are the buffers. Number 0 is acceptance, any other a refusal.
+pub link-accepts :
+    (c : Counts) (b : Buffers) (d : Counts) (e : Buffers) (out : Buffers) (r : Making.Answer) (x : Buffers) (o : Object) → Linked c b d e out r x → Outcomes c b d e out (ok o)
+    → ((i : ℕ) → getD (b .words) i 0 < 65536) → ((i : ℕ) → getD (e .words) i 0 < 65536) → AcceptedCall out r x o
+link-accepts = Linking.accepted-call
+
+pub link-refuses :
+    (c : Counts) (b : Buffers) (d : Counts) (e : Buffers) (out : Buffers) (r : Making.Answer) (x : Buffers) (q : Refusal) → Linked c b d e out r x → Outcomes c b d e out (refused q)
+    → x ≡ layout nothing out
+link-refuses = Linking.refused-call
+
+pub link-one-answer :
+    (c : Counts) (b : Buffers) (d : Counts) (e : Buffers) (out : Buffers) (r t : Making.Answer) (x y : Buffers) → Linked c b d e out r x → Linked c b d e out t y → (r ≡ t) × (x ≡ y)
+link-one-answer = Linking.linked-once
+
+pub link-number-0 :
+    (c : Counts) (b : Buffers) (d : Counts) (e : Buffers) (out : Buffers) (r : Making.Answer) (x : Buffers) → Linked c b d e out r x → r .number ≡ 0 → (o : Object) × Outcomes c b d e out (ok o)
+link-number-0 = Linking.by-number
+
+pub link-other-number :
+    (c : Counts) (b : Buffers) (d : Counts) (e : Buffers) (out : Buffers) (r : Making.Answer) (x : Buffers) → Linked c b d e out r x → (r .number ≡ 0 → ⊥)
+    → (q : Refusal) × Outcomes c b d e out (refused q)
+link-other-number = Linking.by-other-number
+
+-- WAYS CARRIED OUT by calls of `link`: each entry lent in buffers of its own, each link a call that is lent what its two parts left. What comes of the calls is what the rule says
+-- of the way; and what a link leaves is the layout of that object.
+pub calls-tell-the-rule : (t : Way) (x : Ends) → CarriedOut t x → Tells (run t) x
+calls-tell-the-rule = Carrying.carried-tells
+
+pub calls-leave-its-layout :
+    (room : ℕ) (s t : Way) (c : Counts) (b : Buffers) → CarriedOut (node room s t) (stands c b) → (out : Buffers) × (lentWords (out .words) (out .marks) ≡ room) × (b ≡ layout (view c b) out)
+calls-leave-its-layout = Carrying.carried-laid
+
+-- The third demand of the calls: two ways of one list both stand, with one same object and the same counts, or both are refused;
+pub calls-in-any-order-and-grouping :
+    (w : ℕ) (l : List Object) → Room w l → (s t : Way) → Lends w s → Lends w t → List·Permᴰ (entries s) l → List·Permᴰ (entries t) l → (x y : Ends) → CarriedOut s x → CarriedOut t y → Alike x y
+calls-in-any-order-and-grouping = Carrying.carried-alike
+
+-- refused exactly when two entries clash; what stands is what the entries make;
+pub calls-refuse-exactly-on-clash :
+    (w : ℕ) (l : List Object) → Room w l → (t : Way) → Lends w t → List·Permᴰ (entries t) l → (x : Ends) → CarriedOut t x → Stopped x ↔ TwoClash l
+calls-refuse-exactly-on-clash = Carrying.carried-refused
+
+pub calls-leave-what-they-make : (l : List Object) (t : Way) (c : Counts) (b : Buffers) → List·Permᴰ (entries t) l → CarriedOut t (stands c b) → Joins l (view c b)
+calls-leave-what-they-make = Carrying.carried-joins
+
+-- and two that end in a link and stand leave the same at every place of the six buffers, whatever is lent: equal buffers, where these are of the same lengths.
+pub calls-leave-the-same :
+    (l : List Object) (m n : ℕ) (s s′ t t′ : Way) (c d : Counts) (b e : Buffers) → List·Permᴰ (entries (node m s s′)) l → List·Permᴰ (entries (node n t t′)) l
+    → CarriedOut (node m s s′) (stands c b) → CarriedOut (node n t t′) (stands d e) → SameContents b e
+calls-leave-the-same = Carrying.carried-contents
+
+pub calls-leave-equal-buffers :
+    (l : List Object) (m n : ℕ) (s s′ t t′ : Way) (c d : Counts) (b e : Buffers) → List·Permᴰ (entries (node m s s′)) l → List·Permᴰ (entries (node n t t′)) l
+    → CarriedOut (node m s s′) (stands c b) → CarriedOut (node n t t′) (stands d e) → SameSizes b e → b ≡ e
+calls-leave-equal-buffers = Carrying.carried-equal
+
+-- Each way whose entries are lent, and whose links are lent no more words than a buffer can lend, can be carried out.
+pub every-way-can-be-carried-out : (t : Way) → EntriesLent t → Lendable t → (x : Ends) × CarriedOut t x
+every-way-can-be-carried-out = Carrying.can-carry
+
+-- THE STORED FORM, of the rule (`Stored`; the calls are to come). Checking what was stored gives the object back.
+pub stored-checks : (o : Object) → Good o → check (stored o) ≡ ok o
+stored-checks = StoredForm.stored-checks
+
+-- What checking accepts is good, and is stored as the same bytes (the numbers of a buffer of bytes are below 256).
+pub checked-is-good : (b : List ℕ) (o : Object) → AreBytes b → check b ≡ ok o → Good o
+checked-is-good = StoredForm.checked-good
+
+pub checked-is-stored : (b : List ℕ) (o : Object) → AreBytes b → check b ≡ ok o → stored o ≡ b
+checked-is-stored = StoredForm.checked-stored
+
+-- So no two objects share stored bytes, and one object has one.
+pub no-two-objects-share-bytes : (o p : Object) → Good o → Good p → stored o ≡ stored p → o ≡ p
+no-two-objects-share-bytes = StoredForm.no-two-share
+
+pub one-object-has-one-form : (b c : List ℕ) (o : Object) → AreBytes b → AreBytes c → check b ≡ ok o → check c ≡ ok o → b ≡ c
+one-object-has-one-form = StoredForm.one-has-one
+
+-- 50 stands at the first field that breaks the form: every beginning up to there begins a stored object, and with the field that stands there, if it is whole, none does.
+pub fifty-stands-at-the-first : (b : List ℕ) (i : ℕ) → AreBytes b → check b ≡ refuse 50 (offsetAt i) → FirstBreak b i
+fifty-stands-at-the-first = StoredFirst.fifty-first
+
+-- Checking answers an object, or 50 with an offset in the bytes or at their end.
+pub checking-answers : (b : List ℕ) → ObjectOrFifty b (check b)
+checking-answers = StoredSteps.check-answers
+
+-- No object takes more bytes than this, and some object takes so many.
+pub no-object-takes-more : (o : Object) → Good o → length (stored o) ≤ mostBytes
+no-object-takes-more = StoredMost.stored-most
+
+pub some-object-takes-them : (o : Object) × Good o × (length (stored o) ≡ mostBytes)
+some-object-takes-them = StoredReached.most-taken
+
 -- THE CALLS FROM OTHER LANGUAGES, crate `lc3`. Two answers of nine numbers that a contract allows are equal: `lc3_next_token`; `lc3_first_refusal`; `lc3_disassemble`;
--- `lc3_assemble`, and the six buffers too; `lc3_list`, and its buffer of text too; `lc3_lookup_label`; `lc3_rev_lookup_label`.
+-- `lc3_assemble`, and the six buffers too; `lc3_link`, and the six buffers too; `lc3_list`, and its buffer of text too; `lc3_lookup_label`; `lc3_rev_lookup_label`.
 pub lc3-next-token-one-answer :
     (s : List ℕ) (at : ℕ) (x y : List ℕ) → x ≡ numbers (Told.nextTold (coded (nextToken s at))) → y ≡ numbers (Told.nextTold (coded (nextToken s at))) → x ≡ y
 lc3-next-token-one-answer s at x y p q = p ∙ sym q
@@ -262,6 +425,12 @@ lc3-assemble-one-answer b s x y p q = p ∙ sym q
 
 pub lc3-assemble-one-object : (b : Buffers) (s : List ℕ) (x y : Buffers) → x ≡ leftObject (called b s) b → y ≡ leftObject (called b s) b → x ≡ y
 lc3-assemble-one-object b s x y p q = p ∙ sym q
+
+pub lc3-link-one-answer : (c : Counts) (b : Buffers) (d : Counts) (e out p q : Buffers) (x y : List ℕ) → LinkCall c b d e out p x → LinkCall c b d e out q y → x ≡ y
+lc3-link-one-answer c b d e out p q x y = Calls.link-call-once
+
+pub lc3-link-one-object : (c : Counts) (b : Buffers) (d : Counts) (e out p q : Buffers) (x y : List ℕ) → LinkCall c b d e out p x → LinkCall c b d e out q y → p ≡ q
+lc3-link-one-object c b d e out p q x y = Calls.link-object-once
 
 pub lc3-list-one-answer : (c : Counts) (b : Buffers) (len : ℕ) (t u x y : List ℕ) → ListCall c b len t x → ListCall c b len u y → x ≡ y
 lc3-list-one-answer c b len t u x y = Calls.list-call-once

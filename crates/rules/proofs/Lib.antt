@@ -39,3 +39,4 @@ pub mod Walk
 pub mod Calls
 pub mod Pinned
 pub mod Halving
+pub mod Merging

@@ -60,47 +60,38 @@ abbrev pub spell : List Item → List ℕ
 spell [] = []
 spell (i ∷ is) = frame (tagOf i) (content i) ++ spell is
 
--- RUNS: x02 of 16,384 each, the last of a run fewer or equal; neighbouring runs of the same tag only where x02 is full
+-- RUNS: x02 set words (16,384 each, the last of a run fewer or equal), x03 count of unset words; neighbouring runs of the same tag only where x02 is full
 
-abbrev pub runRoom : ℕ
+unfoldable pub runRoom : ℕ
 runRoom = 16384
 
--- how the run before stands: set words with room for so many more, or unset words
-pub data Mode : Type 0 where
-  setting : ℕ → Mode
-  skipping : Mode
+-- a word before runs: part of the first where that is of its kind, else a run of its own
+abbrev pub joined : Cell → List Run → List Run
+joined unset [] = gap 1 ∷ []
+joined unset (gap n ∷ rs) = gap (suc n) ∷ rs
+joined unset (sets ws ∷ rs) = gap 1 ∷ sets ws ∷ rs
+joined (word w) [] = sets (w ∷ []) ∷ []
+joined (word w) (gap n ∷ rs) = sets (w ∷ []) ∷ gap n ∷ rs
+joined (word w) (sets ws ∷ rs) = sets (w ∷ ws) ∷ rs
 
--- what goes on the run before, and the runs after it
-pub record Part : Type 0 where
-  pub words : List ℕ
-  pub count : ℕ
-  pub rest : List Run
+-- the longest runs
+unfoldable pub longest : List Cell → List Run
+longest [] = []
+longest (c ∷ cs) = joined c (longest cs)
 
-abbrev pub part : List ℕ → ℕ → List Run → Part
-part w n r = record { words = w; count = n; rest = r }
+-- set words as runs of 16,384 each, the last fewer or equal; as many runs as there are words are enough
+unfoldable pub pieces : ℕ → List ℕ → List Run
+pieces zero ws = []
+pieces (suc k) [] = []
+pieces (suc k) (w ∷ ws) = sets (take runRoom (w ∷ ws)) ∷ pieces k (drop runRoom (w ∷ ws))
 
-abbrev pub oneMore : ℕ → Part → Part
-oneMore w p = part (w ∷ p .words) 0 (p .rest)
-
-abbrev pub newSets : ℕ → Part → Part
-newSets w p = part [] 0 (sets (w ∷ p .words) ∷ p .rest)
-
-abbrev pub oneUnset : Part → Part
-oneUnset p = part [] (suc (p .count)) (p .rest)
-
-abbrev pub newGap : Part → Part
-newGap p = part [] 0 (gap (suc (p .count)) ∷ p .rest)
-
-unfoldable pub cut : Mode → List Cell → Part
-cut m [] = part [] 0 []
-cut (setting zero) (word w ∷ cs) = newSets w (cut (setting 16383) cs)
-cut (setting (suc k)) (word w ∷ cs) = oneMore w (cut (setting k) cs)
-cut skipping (word w ∷ cs) = newSets w (cut (setting 16383) cs)
-cut (setting k) (unset ∷ cs) = newGap (cut skipping cs)
-cut skipping (unset ∷ cs) = oneUnset (cut skipping cs)
+unfoldable pub cut : List Run → List Run
+cut [] = []
+cut (gap n ∷ rs) = gap n ∷ cut rs
+cut (sets ws ∷ rs) = pieces (length ws) ws ++ cut rs
 
 unfoldable pub runsOf : List Cell → List Run
-runsOf cs = cut (setting 0) cs .rest
+runsOf cs = cut (longest cs)
 
 -- WRITING
 
@@ -188,34 +179,28 @@ meant (suc (suc (suc (suc (suc zero))))) c = some (label c outer)
 meant (suc (suc (suc (suc (suc (suc zero)))))) c = asReloc c
 meant (suc (suc (suc (suc (suc (suc (suc t))))))) c = none
 
--- One field at a time: how many bytes are left from it on, and what it says (none: it says nothing, or is cut short).
-pub record Field : Type 0 where
-  pub left : ℕ
-  pub item : Option Item
+-- READING: one field at a time
 
-abbrev pub field : ℕ → Option Item → Field
-field l i = record { left = l; item = i }
+-- what stands at a position: nothing, since the bytes end there; a field that is cut short; a field, with its tag, its content and where the next begins
+pub data Field : Type 0 where
+  over : Field
+  cutShort : Field
+  field : ℕ → List ℕ → ℕ → Field
 
--- a field whose content is there, and those after it; a field cut short is the last
-abbrev pub framed : Bool → ℕ → Option Item → List Field → List Field
-framed true l i fs = field l i ∷ fs
-framed false l i fs = field l none ∷ []
+abbrev pub framed : Bool → ℕ → List ℕ → ℕ → Field
+framed true t c z = field t c z
+framed false t c z = cutShort
 
--- the first k fields of bytes; as many as there are bytes are enough, since a field has three at least
-unfoldable pub fieldsIn : ℕ → List ℕ → List Field
-fieldsIn zero b = []
-fieldsIn (suc k) [] = []
-fieldsIn (suc k) (t ∷ []) = field 1 none ∷ []
-fieldsIn (suc k) (t ∷ h ∷ []) = field 2 none ∷ []
-fieldsIn (suc k) (t ∷ h ∷ l ∷ c) =
-    framed (leb (h * 256 + l) (length c)) (3 + length c) (meant t (take (h * 256 + l) c)) (fieldsIn k (drop (h * 256 + l) c))
+-- the bytes from a position on
+unfoldable pub fieldIn : ℕ → List ℕ → Field
+fieldIn at [] = over
+fieldIn at (t ∷ []) = cutShort
+fieldIn at (t ∷ h ∷ []) = cutShort
+fieldIn at (t ∷ h ∷ l ∷ c) = let n = h * 256 + l in framed (leb n (length c)) t (take n c) (at + 3 + n)
 
--- A small reader that holds the lent stored bytes and a position gives one field at a time: the one there, or none at the end.
-unfoldable pub fieldAt : List ℕ → ℕ → List Field
-fieldAt b at = fieldsIn 1 (drop at b)
-
-unfoldable pub fields : List ℕ → List Field
-fields b = fieldsIn (length b) b
+-- A small reader that holds the lent stored bytes and a position gives one field at a time.
+unfoldable pub fieldAt : List ℕ → ℕ → Field
+fieldAt b at = fieldIn at (drop at b)
 
 -- READING: the order of fields
 
@@ -341,29 +326,34 @@ isFin (label n v) = false
 isFin (reloc a n) = false
 
 -- 50 at the first field that breaks this or is cut short, at the end of the bytes if x00 is missing
-abbrev pub broken : ℕ → ℕ → Outcome Object
-broken len left = refuse 50 (offsetAt (len - left))
+abbrev pub broken : ℕ → Outcome Object
+broken at = refuse 50 (offsetAt at)
 
 -- bytes after the end
-abbrev pub ended : ℕ → State → List Field → Outcome Object
-ended len s [] = ok (held s)
-ended len s (f ∷ fs) = broken len (f .left)
+abbrev pub ended : Bool → State → ℕ → Outcome Object
+ended true s at = ok (held s)
+ended false s at = broken at
 
 abbrev pub judged : {A : Type 0} → Bool → Bool → A → A → A → A
 judged false f a b c = a
 judged true true a b c = b
 judged true false a b c = c
 
-unfoldable pub readFrom : ℕ → State → List Field → Outcome Object
-readFrom len s [] = broken len 0
-readFrom len s (f ∷ fs) = elim (f .item) [
-  | none ↦ broken len (f .left)
-  | some i ↦ judged (may s i) (isFin i) (broken len (f .left)) (ended len s fs) (readFrom len (next s i) fs)
+-- the fields from a position on, of which there are k at most
+unfoldable pub readFrom : List ℕ → ℕ → State → ℕ → Outcome Object
+readFrom b zero s at = broken at
+readFrom b (suc k) s at = elim (fieldAt b at) [
+  | over ↦ broken at
+  | cutShort ↦ broken at
+  | field t c z ↦ elim (meant t c) [
+    | none ↦ broken at
+    | some i ↦ judged (may s i) (isFin i) (broken at) (ended (eqb z (length b)) s z) (readFrom b k (next s i) z)
+  ]
 ]
 
--- checking
+-- checking; there are fewer fields than bytes
 unfoldable pub check : List ℕ → Outcome Object
-check b = readFrom (length b) begin (fields b)
+check b = readFrom b (length b) begin 0
 
 -- loading refuses with 50 as checking does, then 41
 unfoldable pub load : ℕ → List ℕ → Outcome Object
@@ -373,5 +363,5 @@ load room b = do
   ok o
 
 unfoldable pub storing : Unit {0}
-unfolding cut runsOf stored store words meant fieldsIn fieldAt fields fits after may next readFrom check load
+unfolding runRoom longest pieces cut runsOf stored store words meant fieldIn fieldAt fits after may next readFrom check load
 storing = tt

@@ -1,63 +1,7 @@
 // Replays answers of assembling: each source of data/vectors_1.txt and vectors_2.txt into buffers of the sizes named there. Writes those that differ, and at the end how many were replayed.
-use asm::Answer;
 use libc::STDOUT_FILENO;
+use object_answer::Answer;
 use test_replay::Lacking;
-
-// The answer that a line asks for, and where the field after it begins.
-struct Expected {
-    answer: Answer,
-    next: usize,
-}
-
-fn lacking_at(data: &[u8], at: usize) -> Lacking {
-    let a = test_support::decimal(data, at);
-    let b = test_support::decimal(data, a.next);
-    let c = test_support::decimal(data, b.next);
-    let d = test_support::decimal(data, c.next);
-    let e = test_support::decimal(data, d.next);
-    let f = test_support::decimal(data, e.next);
-    Lacking {
-        blocks: a.value,
-        words: b.value,
-        marks: c.value,
-        labels: d.value,
-        relocations: e.value,
-        names: f.value,
-        next: f.next,
-    }
-}
-
-// The low sixteen bits.
-fn low16(n: usize) -> u16 {
-    (n % 65536) as u16
-}
-
-fn expected_at(data: &[u8], at: usize) -> Expected {
-    let a = test_support::decimal(data, at);
-    let b = test_support::decimal(data, a.next);
-    let c = test_support::decimal(data, b.next);
-    let d = test_support::decimal(data, c.next);
-    let e = test_support::decimal(data, d.next);
-    let f = test_support::decimal(data, e.next);
-    let g = test_support::decimal(data, f.next);
-    let h = test_support::decimal(data, g.next);
-    let i = test_support::decimal(data, h.next);
-    let answer = Answer {
-        number: low16(a.value),
-        start: b.value,
-        end: c.value,
-        start2: d.value,
-        end2: e.value,
-        blocks: f.value,
-        words: g.value,
-        labels: h.value,
-        relocations: i.value,
-    };
-    Expected {
-        answer,
-        next: i.next,
-    }
-}
 
 // Whether a source of so many bytes is answered as asked.
 fn right(src: &[u8], size: usize, lacking: Lacking, asked: Answer, digits: &[u8]) -> bool {
@@ -70,8 +14,8 @@ fn right(src: &[u8], size: usize, lacking: Lacking, asked: Answer, digits: &[u8]
 // Replays the line at a place, and answers where the next one begins.
 fn replay(data: &[u8], at: usize, src: &mut [u8], line: u64) -> usize {
     let source = test_support::write_source(data, at, src);
-    let lacking = lacking_at(data, source.next);
-    let expected = expected_at(data, lacking.next);
+    let lacking = test_replay::lacking_at(data, source.next);
+    let expected = test_replay::expected_at(data, lacking.next);
     let listing = test_support::part_at(data, expected.next);
     let answer = expected.answer;
     let digits = test_support::digits_of(data, listing);

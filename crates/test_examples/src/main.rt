@@ -1,11 +1,102 @@
-// The marked examples P1 to P9 of document 01, each assembled and printed; then some sources explained: an object with everything that a view shows, and refusals in
+// The marked examples P1 to P10 of document 01, each assembled, or two of them linked, and printed; then some sources explained: an object with everything that a view shows, and refusals in
 // places that are easy to underline wrongly.
 use libc::STDOUT_FILENO;
+use object::Counts;
+use object_answer::Answer;
+
+// How many words an example that is linked may have.
+const WORDS: usize = 16;
+
+const P2: [u8; 61] = *b".external F\n.orig x3000\nLD R1, P\nJSRR R1\nHALT\nP .fill F\n.end\n";
+
+const P3: [u8; 38] = *b".orig x4000\nF ADD R0, R0, #1\nRET\n.end\n";
 
 // An example's name, then its listing.
 fn show(name: &[u8], src: &[u8]) {
     io::write_all(STDOUT_FILENO, name);
     list_print::print_source(src);
+}
+
+// The counts of an accepted object.
+fn counts_of(answer: Answer) -> Counts {
+    Counts {
+        blocks: answer.blocks,
+        words: answer.words,
+        labels: answer.labels,
+        relocations: answer.relocations,
+    }
+}
+
+// What is linked, then the listing of the link of two sources that assemble.
+fn show_link(name: &[u8], first: &[u8], second: &[u8]) {
+    let mut blocks1 = [0u16; object::BLOCK_ROOM];
+    let mut words1 = [0u16; WORDS];
+    let mut marks1 = [0u8; WORDS];
+    let mut labels1 = [0u32; object::LABEL_ROOM];
+    let mut relocations1 = [0u32; object::RELOCATION_ROOM];
+    let mut names1 = [0u8; object::NAME_ROOM];
+    let mut blocks2 = [0u16; object::BLOCK_ROOM];
+    let mut words2 = [0u16; WORDS];
+    let mut marks2 = [0u8; WORDS];
+    let mut labels2 = [0u32; object::LABEL_ROOM];
+    let mut relocations2 = [0u32; object::RELOCATION_ROOM];
+    let mut names2 = [0u8; object::NAME_ROOM];
+    let mut blocks = [0u16; object::BLOCK_ROOM];
+    let mut words = [0u16; WORDS];
+    let mut marks = [0u8; WORDS];
+    let mut labels = [0u32; object::LABEL_ROOM];
+    let mut relocations = [0u32; object::RELOCATION_ROOM];
+    let mut names = [0u8; object::NAME_ROOM];
+    let a = asm::assemble(
+        first,
+        &mut blocks1,
+        &mut words1,
+        &mut marks1,
+        &mut labels1,
+        &mut relocations1,
+        &mut names1,
+    );
+    let b = asm::assemble(
+        second,
+        &mut blocks2,
+        &mut words2,
+        &mut marks2,
+        &mut labels2,
+        &mut relocations2,
+        &mut names2,
+    );
+    let answer = link::link(
+        counts_of(a),
+        &blocks1,
+        &words1,
+        &marks1,
+        &labels1,
+        &relocations1,
+        &names1,
+        counts_of(b),
+        &blocks2,
+        &words2,
+        &marks2,
+        &labels2,
+        &relocations2,
+        &names2,
+        &mut blocks,
+        &mut words,
+        &mut marks,
+        &mut labels,
+        &mut relocations,
+        &mut names,
+    );
+    io::write_all(STDOUT_FILENO, name);
+    list_print::print_answer(
+        answer,
+        &blocks,
+        &words,
+        &marks,
+        &labels,
+        &relocations,
+        &names,
+    );
 }
 
 // A line that says what is explained, then the view.
@@ -19,11 +110,10 @@ fn marked_examples() {
         b"P1\n",
         b".orig x3000\nSTART LEA R0, MSG\nPUTS\nHALT\nMSG .stringz \"Hi\"\n.end\n",
     );
-    show(
-        b"P2\n",
-        b".external F\n.orig x3000\nLD R1, P\nJSRR R1\nHALT\nP .fill F\n.end\n",
-    );
-    show(b"P3\n", b".orig x4000\nF ADD R0, R0, #1\nRET\n.end\n");
+    show(b"P2\n", &P2);
+    show(b"P3\n", &P3);
+    show_link(b"P2 and P3\n", &P2, &P3);
+    show_link(b"P3 and P2\n", &P3, &P2);
     show(b"P4\n", b"");
     show(b"P5\n", b".orig xFDFF\n.fill 0\n.end\n");
     show(b"P5\n", b".orig xFE00\n.fill 0\n.end\n");
@@ -40,6 +130,7 @@ fn marked_examples() {
     show(b"P8\n", b".external F\n.orig x3000\nLD R0, F\n.end\n");
     show(b"P9\n", b".orig x3000\n.fill -32768\n.end\n");
     show(b"P9\n", b".orig x3000\n.fill -32769\n.end\n");
+    show_link(b"P10\n", &P3, &P3);
 }
 
 fn views() {

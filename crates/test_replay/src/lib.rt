@@ -1,7 +1,8 @@
-// Whether a source, assembled into buffers that may lack some of their full sizes, is answered as asked.
-use asm::Answer;
+// What the programs that replay answers share: the fields of an answer read, an answer and its object held to them, and a source assembled into buffers that may lack some of
+// their full sizes.
 use list::Listed;
 use object::Counts;
+use object_answer::Answer;
 ghost use Prim.Native.Nat.{_≤_};
 
 // How many numbers each lent buffer lacks of its full size, and where the field after them begins.
@@ -15,8 +16,66 @@ pub struct Lacking {
     pub next: usize,
 }
 
+// The answer that a line asks for, and where the field after it begins.
+pub struct Expected {
+    pub answer: Answer,
+    pub next: usize,
+}
+
+// How much each buffer lacks, read from a place.
+pub fn lacking_at(data: &[u8], at: usize) -> Lacking {
+    let a = test_support::decimal(data, at);
+    let b = test_support::decimal(data, a.next);
+    let c = test_support::decimal(data, b.next);
+    let d = test_support::decimal(data, c.next);
+    let e = test_support::decimal(data, d.next);
+    let f = test_support::decimal(data, e.next);
+    Lacking {
+        blocks: a.value,
+        words: b.value,
+        marks: c.value,
+        labels: d.value,
+        relocations: e.value,
+        names: f.value,
+        next: f.next,
+    }
+}
+
+// The low sixteen bits.
+fn low16(n: usize) -> u16 {
+    (n % 65536) as u16
+}
+
+// The answer that is asked for, read from a place.
+pub fn expected_at(data: &[u8], at: usize) -> Expected {
+    let a = test_support::decimal(data, at);
+    let b = test_support::decimal(data, a.next);
+    let c = test_support::decimal(data, b.next);
+    let d = test_support::decimal(data, c.next);
+    let e = test_support::decimal(data, d.next);
+    let f = test_support::decimal(data, e.next);
+    let g = test_support::decimal(data, f.next);
+    let h = test_support::decimal(data, g.next);
+    let i = test_support::decimal(data, h.next);
+    let answer = Answer {
+        number: low16(a.value),
+        start: b.value,
+        end: c.value,
+        start2: d.value,
+        end2: e.value,
+        blocks: f.value,
+        words: g.value,
+        labels: h.value,
+        relocations: i.value,
+    };
+    Expected {
+        answer,
+        next: i.next,
+    }
+}
+
 // What is left of a full size that lacks so many.
-fn left(full: usize, lacking: usize) -> usize
+pub fn left(full: usize, lacking: usize) -> usize
     ensures { λ r. ⌜ r ≤ full ⌝ }
 {
     if full < lacking {
@@ -75,6 +134,46 @@ fn listed_right(
     same_listing(listed, &text, digits)
 }
 
+// The counts of an accepted object.
+pub fn counts_of(answer: Answer) -> Counts {
+    Counts {
+        blocks: answer.blocks,
+        words: answer.words,
+        labels: answer.labels,
+        relocations: answer.relocations,
+    }
+}
+
+// Whether an answer is the one asked for, and where it is acceptance the listing of the object that it left.
+pub fn as_asked(
+    got: Answer,
+    asked: Answer,
+    digits: &[u8],
+    blocks: &[u16],
+    words: &[u16],
+    marks: &[u8],
+    labels: &[u32],
+    relocations: &[u32],
+    names: &[u8],
+) -> bool {
+    if same_answer(got, asked) {
+        if got.number == 0 {
+            return listed_right(
+                counts_of(got),
+                blocks,
+                words,
+                marks,
+                labels,
+                relocations,
+                names,
+                digits,
+            );
+        }
+        return true;
+    }
+    false
+}
+
 // Whether a source is answered as asked in these buffers.
 fn answered(
     src: &[u8],
@@ -88,19 +187,17 @@ fn answered(
     names: &mut [u8],
 ) -> bool {
     let got = asm::assemble(src, blocks, words, marks, labels, relocations, names);
-    if same_answer(got, asked) {
-        if got.number == 0 {
-            let c = Counts {
-                blocks: got.blocks,
-                words: got.words,
-                labels: got.labels,
-                relocations: got.relocations,
-            };
-            return listed_right(c, blocks, words, marks, labels, relocations, names, digits);
-        }
-        return true;
-    }
-    false
+    as_asked(
+        got,
+        asked,
+        digits,
+        blocks,
+        words,
+        marks,
+        labels,
+        relocations,
+        names,
+    )
 }
 
 // Whether a source is answered as asked in buffers that lack so much of their full sizes.

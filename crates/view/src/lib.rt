@@ -1,6 +1,6 @@
 // An assembled source printed on standard output for a person: the object word by word, or the refusal with its places underlined.
-use asm::Answer;
 use object::Counts;
+use object_answer::Answer;
 
 // How many words the program's object may have.
 const WORDS: usize = 32768;

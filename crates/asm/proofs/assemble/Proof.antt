@@ -1,5 +1,5 @@
 -- `asm::assemble` meets its contract. Assumes nothing.
-use Rattle.asm.proofs.Leaving.{leaves-refused}
+use Rattle.object_answer.proofs.Leaving.{leaves-refused}
 use Rattle.asm.proofs.Stages.{table-long, call-begun, call-fits, call-long, call-went, call-stopped}
 use borrow.Author.Needs.{needs}
 use Rattle.asm.proofs.assemble.Statement.{statement}

@@ -1,0 +1,45 @@
+-- `link_decide::judge` meets its contract. Assumes nothing.
+use mathlib.Core.Path.{refl}
+use Rattle.link_decide.proofs.Steps.{row-fits, still-carried, judged-meets, judged-differs, judged-weighs}
+use borrow.Author.Needs.{needs}
+use Rattle.link_decide.proofs.judge.Statement.{statement}
+use Rattle.link_decide.proofs.judge.Tie as tie
+
+returns : tie.Need-returns
+returns c = judged-meets _ _ _ _ _ _ _ _ _ _ _ _ _ _ _ (c .before .before .blocks-meet .ensures) (c .before .if1 .taken) (c .placeless .ensures)
+
+add-t24 : tie.Need-add-t24
+add-t24 c = let low = row-fits (c .before .before .before .before .before .before .before .before .before .before .before .before .before .before .before .before .before .before .before .before .before .before .pre .labels) (c .before .before .before .before .before .before .before .match-labels .ensures) (c .before .matched .given .1) in search needs
+
+tally-requires : tie.Need-tally-requires
+tally-requires c κs =
+    (still-carried (c .before .before .before .before .before .before .before .before .before .before .before .before .before .before .before .before .before .before .before .before .before .before .before .before .pre .relocs1) (c .before .before .before .before .before .before .before .before .before .match-labels .kept .1 .1 .1 .1 .1 .1 .0), still-carried (c .before .before .before .before .before .before .before .before .before .before .before .before .before .before .before .before .before .before .before .before .before .before .before .before .pre .relocs2) (c .before .before .before .before .before .before .before .before .before .match-labels .kept .1 .1 .1 .1 .1 .1 .1 .0), c .before .before .before .before .before .before .before .before .before .before .before .before .before .before .before .before .before .before .before .before .before .before .before .before .pre .few)
+
+returns-2 : tie.Need-returns-2
+returns-2 c =
+    judged-differs _ _ _ _ _ _ _ _ _ _ _ _ _ _ _ (c .before .before .before .before .before .before .before .before .before .before .before .blocks-meet .ensures) (c .before .before .before .before .before .before .before .before .before .before .if1 .left) _ (c .before .before .before .before .before .before .before .match-labels .ensures) _ (c .before .matched .given .1) refl
+
+returns-3 : tie.Need-returns-3
+returns-3 c =
+    judged-weighs _ _ _ _ _ _ _ _ _ _ _ _ _ _ _ (c .before .before .before .before .before .before .before .before .before .before .before .before .before .before .before .blocks-meet .ensures) (c .before .before .before .before .before .before .before .before .before .before .before .before .before .before .if1 .left) _ (c .before .before .before .before .before .before .before .before .before .before .before .match-labels .ensures) _ (c .before .before .before .before .before .matched2 .given .1)
+    _ (c .weigh .ensures) (c .before .tally .ensures)
+
+pub judge-spec : {M : Type 1} → statement M
+judge-spec =
+    tie.close
+    (tie.spec
+    (λ c κs. search needs)
+    (λ c κs. search needs)
+    returns
+    (λ c κs. search needs)
+    (λ c. search needs)
+    add-t24
+    (λ c. search needs)
+    tally-requires
+    (λ c κs. search needs)
+    (λ c. search needs)
+    (λ c. search needs)
+    returns-2
+    (λ c. search needs)
+    (λ c. search needs)
+    returns-3)

@@ -1,0 +1,2 @@
+-- What the contracts of `link_decide` cite beside the rules. Assumes nothing.
+pub mod Decided

@@ -1,0 +1,2 @@
+-- What the contracts of `link_relocations` cite. Assumes nothing.
+pub mod Open

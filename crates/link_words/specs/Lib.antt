@@ -1,0 +1,2 @@
+-- What the contracts of `link_words` cite beside the rules. Assumes nothing.
+pub mod Settled

@@ -1,0 +1,2 @@
+-- Laws that calls that make an object cite. Assumes nothing.
+pub mod Leaving

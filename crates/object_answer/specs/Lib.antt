@@ -1,0 +1,2 @@
+-- What the contracts of calls that make an object cite. Assumes nothing.
+pub mod Meant
