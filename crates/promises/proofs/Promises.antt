@@ -66,6 +66,8 @@ use Rattle.laws_stored.proofs.First as StoredFirst
 use Rattle.laws_stored.proofs.Most as StoredMost
 use Rattle.laws_stored.proofs.Reached as StoredReached
 use Rattle.laws_stored.proofs.Checking as StoredSteps
+use Rattle.stored.specs.Call as StoreCall
+use Rattle.stored.specs.declared.Stored as Storing
 use Rattle.laws_link.proofs.Demand as Demand
 use Rattle.laws_link.proofs.Obtaining as Obtaining
 use Rattle.link.specs.Call.{Outcomes, Linked}
@@ -374,7 +376,7 @@ calls-leave-equal-buffers = Carrying.carried-equal
 pub every-way-can-be-carried-out : (t : Way) → EntriesLent t → Lendable t → (x : Ends) × CarriedOut t x
 every-way-can-be-carried-out = Carrying.can-carry
 
--- THE STORED FORM, of the rule (`Stored`; the calls are to come). Checking what was stored gives the object back.
+-- THE STORED FORM, of the rule (`Stored`), and `stored::store` (checking and loading as calls are to come). Checking what was stored gives the object back.
 pub stored-checks : (o : Object) → Good o → check (stored o) ≡ ok o
 stored-checks = StoredForm.stored-checks
 
@@ -406,6 +408,13 @@ no-object-takes-more = StoredMost.stored-most
 
 pub some-object-takes-them : (o : Object) × Good o × (length (stored o) ≡ mostBytes)
 some-object-takes-them = StoredReached.most-taken
+
+-- `stored::store`: two answers that the contract allows are equal, and so is the buffer of bytes.
+pub store-one-answer : (c : Counts) (b : Buffers) (len : ℕ) (r s : Storing.Stored) (x y : List ℕ) → StoreCall.Called c b len r x → StoreCall.Called c b len s y → r ≡ s
+store-one-answer c b len r s x y = StoreCall.one-answer
+
+pub store-one-buffer : (c : Counts) (b : Buffers) (len : ℕ) (r s : Storing.Stored) (x y : List ℕ) → StoreCall.Called c b len r x → StoreCall.Called c b len s y → x ≡ y
+store-one-buffer c b len r s x y = StoreCall.one-buffer
 
 -- THE CALLS FROM OTHER LANGUAGES, crate `lc3`. Two answers of nine numbers that a contract allows are equal: `lc3_next_token`; `lc3_first_refusal`; `lc3_disassemble`;
 -- `lc3_assemble`, and the six buffers too; `lc3_link`, and the six buffers too; `lc3_list`, and its buffer of text too; `lc3_lookup_label`; `lc3_rev_lookup_label`.

@@ -1,0 +1,2 @@
+-- Laws that the proofs of `stored` cite. Assumes nothing.
+pub mod Storing

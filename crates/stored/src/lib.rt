@@ -1,0 +1,93 @@
+// A lent object into lent bytes, in its stored form, as a call: 42, 43, then 51 exactly when the bytes do not fit.
+use base_refusals::BAD_OBJECT;
+use base_refusals::NO_WRITE_ROOM;
+use base_refusals::SHORT_BUFFER;
+use object::Counts;
+use object_check::Checked;
+use stored_fields::HEAD_BYTES;
+ghost use mathlib.Core.Path.{_≡_};
+ghost use lib.ListN.{length};
+ghost use Rattle.rules.specs.Buffers.{six, Valid, view, zeros};
+ghost use Rattle.rules.specs.Stored.{stored};
+ghost use Rattle.object.specs.Meaning.{counts};
+ghost use Rattle.stored.specs.Call.{Written, Called};
+
+// How many bytes the stored object has, or the number of the refusal: 42, 43 or 51. None of these has a place.
+pub enum Stored {
+    Bytes(usize),
+    Refused(u16),
+}
+
+// How many bytes a valid object has when it is stored.
+fn stored_size(
+    c: Counts,
+    blocks: &[u16],
+    words: &[u16],
+    marks: &[u8],
+    labels: &[u32],
+    relocations: &[u32],
+    names: &[u8],
+) -> usize
+    requires { ⌜ Valid (counts c) (six (now blocks) (now words) (now marks) (now labels) (now relocations) (now names)) ⌝ }
+    ensures { λ r. ⌜ r ≡ length (stored (view (counts c) (six (now (blocks .entry)) (now (words .entry)) (now (marks .entry)) (now (labels .entry)) (now (relocations .entry)) (now (names .entry))))) ⌝ }
+{
+    let b = c.blocks;
+    let w = c.words;
+    let l = c.labels;
+    let n = c.relocations;
+    let first = stored_write_blocks::blocks_size(blocks, b, marks, w);
+    let second = stored_write_labels::labels_size(labels, names, l);
+    let third = stored_write_labels::relocations_size(relocations, labels, names, n);
+    first + second + third + HEAD_BYTES
+}
+
+// A valid object into a buffer of zeros. Its size is counted first: a refusal leaves nothing to undo, and no write needs a test.
+fn store_object(
+    c: Counts,
+    blocks: &[u16],
+    words: &[u16],
+    marks: &[u8],
+    labels: &[u32],
+    relocations: &[u32],
+    names: &[u8],
+    bytes: &mut [u8],
+) -> Stored
+    requires { ⌜ Valid (counts c) (six (now blocks) (now words) (now marks) (now labels) (now relocations) (now names)) ⌝ }
+    requires { ⌜ now bytes ≡ zeros (length (now bytes)) ⌝ }
+    ensures { λ r. ⌜ Written (view (counts c) (six (now (blocks .entry)) (now (words .entry)) (now (marks .entry)) (now (labels .entry)) (now (relocations .entry)) (now (names .entry)))) (length (now (bytes .entry))) r (now (bytes .exit)) ⌝ }
+{
+    let size = stored_size(c, blocks, words, marks, labels, relocations, names);
+    if bytes.len() < size {
+        return Stored::Refused(NO_WRITE_ROOM);
+    }
+    let b = c.blocks;
+    let w = c.words;
+    let l = c.labels;
+    let n = c.relocations;
+    let first = stored_write_blocks::put_blocks(bytes, 0, blocks, b, words, marks, w);
+    let second = stored_write_labels::put_labels(bytes, first, labels, names, l);
+    let third = stored_write_labels::put_relocations(bytes, second, relocations, labels, names, n);
+    let end = stored_fields::put_end(bytes, third);
+    Stored::Bytes(end)
+}
+
+// A lent object into lent bytes.
+pub fn store(
+    c: Counts,
+    blocks: &[u16],
+    words: &[u16],
+    marks: &[u8],
+    labels: &[u32],
+    relocations: &[u32],
+    names: &[u8],
+    bytes: &mut [u8],
+) -> Stored
+    ensures { λ r. ⌜ Called (counts c) (six (now (blocks .entry)) (now (words .entry)) (now (marks .entry)) (now (labels .entry)) (now (relocations .entry)) (now (names .entry))) (length (now (bytes .entry))) r (now (bytes .exit)) ⌝ }
+{
+    base_buffers::zero_u8(bytes);
+    match object_check::check_object(c, blocks, words, marks, labels, relocations, names) {
+        Checked::Object => store_object(c, blocks, words, marks, labels, relocations, names, bytes),
+        Checked::ShortBuffer => Stored::Refused(SHORT_BUFFER),
+        Checked::BadObject => Stored::Refused(BAD_OBJECT),
+    }
+}

@@ -1,0 +1,3 @@
+-- What the proofs of `stored_reader` cite, and where the reader stands after a step. Assumes nothing.
+pub mod Names
+pub mod Steps
