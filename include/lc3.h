@@ -17,6 +17,7 @@ extern "C" {
 #define LC3_WORDS 65024      /* uint16_t: the words of all blocks one after another; fewer may be lent, more are never used */
 #define LC3_MARKS 65024      /* uint8_t: 1 where the word is set, 0 where it is not; the shorter of words and marks counts */
 #define LC3_SOURCE 262144    /* uint8_t: the longest source */
+#define LC3_STORED_BYTES 466881 /* uint8_t: the most that a stored object takes */
 
 /* Where an answer has what. A missing span is 0, 0; an offset stands at both ends of its span; counts after a refusal are 0. */
 enum lc3_place {
@@ -131,6 +132,25 @@ void lc3_list(size_t n_blocks, size_t n_words, size_t n_labels, size_t n_relocat
               const uint16_t *blocks, size_t blocks_len, const uint16_t *words, size_t words_len, const uint8_t *marks, size_t marks_len,
               const uint32_t *labels, size_t labels_len, const uint32_t *relocations, size_t relocations_len,
               const uint8_t *names, size_t names_len, uint8_t *text, size_t text_len, uint64_t out[LC3_ANSWER]);
+
+/* Writes a lent object in its stored form to `bytes`, the rest of it zero. Counts: bytes, 0, 0, 0. Refusals: 42, 43, 51. No object takes more
+   than LC3_STORED_BYTES. */
+void lc3_store(size_t n_blocks, size_t n_words, size_t n_labels, size_t n_relocations,
+               const uint16_t *blocks, size_t blocks_len, const uint16_t *words, size_t words_len, const uint8_t *marks, size_t marks_len,
+               const uint32_t *labels, size_t labels_len, const uint32_t *relocations, size_t relocations_len,
+               const uint8_t *names, size_t names_len, uint8_t *bytes, size_t bytes_len, uint64_t out[LC3_ANSWER]);
+
+/* Checks stored bytes. Counts: blocks, words, labels, relocations. Refusal: 50, whose place, at both ends, is the offset of the first field that
+   breaks the form or is cut short, of what stands after the end, or of the end of the bytes where the field x00 is missing. */
+void lc3_check(const uint8_t *bytes, size_t bytes_len, uint64_t out[LC3_ANSWER]);
+
+/* Loads stored bytes into the six buffers. Counts: blocks, words, labels, relocations; the unused rest of each buffer is zero. After a refusal
+   every buffer is zero: 42, 50 as lc3_check gives it, then 41. What is accepted is an object like any other: it may be linked, and is stored as the
+   same bytes. */
+void lc3_load(const uint8_t *bytes, size_t bytes_len,
+              uint16_t *blocks, size_t blocks_len, uint16_t *words, size_t words_len, uint8_t *marks, size_t marks_len,
+              uint32_t *labels, size_t labels_len, uint32_t *relocations, size_t relocations_len, uint8_t *names, size_t names_len,
+              uint64_t out[LC3_ANSWER]);
 
 /* What a lent object says of a name, matched in upper case. Counts: found (0 or 1), external (0 or 1), address, 0. Refusals: 42, 43. */
 void lc3_lookup_label(size_t n_blocks, size_t n_words, size_t n_labels, size_t n_relocations,

@@ -22,10 +22,11 @@ fn main() {
     let here = PathBuf::from(env::var_os("CARGO_MANIFEST_DIR").unwrap());
     let published = env::var_os("LC3_ENSEMBLE").map_or_else(|| here.join("../../../shared/docs/src"), PathBuf::from);
     let out = PathBuf::from(env::var_os("OUT_DIR").unwrap()).join("crate");
+    if out.exists() {
+        fs::remove_dir_all(&out).unwrap();
+    }
+    fs::create_dir_all(&out).unwrap();
     for part in ["asm.rs", "ast", "ast.rs", "err.rs", "parse", "parse.rs"] {
-        if !out.exists() {
-            fs::create_dir_all(&out).unwrap();
-        }
         copy(&published.join("src").join(part), &out.join(part));
     }
     copy(&here.join("stand-ins"), &out);

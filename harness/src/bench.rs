@@ -174,6 +174,36 @@ fn bench_links() {
     }
 }
 
+/// 30,000 words with 1,000 labels, of which 100 are external, each with a word that waits for it.
+fn large() -> String {
+    let externals = (0..100).map(|i| format!(".external OUT_{i:03}\n")).collect::<String>();
+    let fills = (0..900).map(|i| format!("NAME_{i:03} .fill {}\n", if i < 100 { format!("OUT_{i:03}") } else { i.to_string() })).collect::<String>();
+    format!("{externals}.orig x1000\n{fills}{}.end\n", ".fill 7\n".repeat(29_100))
+}
+
+/// Storing, checking and loading beside copying the same bytes: megabytes a second, and how many times as long it takes.
+fn bench_stored() {
+    println!("{:<22} {:>8} {:<34} {:>10} {:>10} {:>6}", "input", "bytes", "what", "copy MB/s", "here MB/s", "times");
+    let mut six = Six::new();
+    let answer = six.assemble(large().as_bytes(), Sizes::FULL);
+    let kept = six.kept([5, 6, 7, 8].map(|i| answer[i] as usize));
+    let bytes = lc3::assemble(large().as_bytes()).unwrap().to_bytes();
+    let (mut stored, mut copied) = (vec![0; bytes.len()], vec![0; bytes.len()]);
+    let words = kept.counts[1];
+    let sizes = Sizes { words, marks: words, ..Sizes::FULL };
+    let copy = |to: &mut Vec<u8>| black_box(to).copy_from_slice(black_box(&bytes));
+    show_speed(bytes.len(), "store", best(|| copy(&mut copied), || sink(lc3::raw::store(kept.lent(), &mut stored))));
+    show_speed(bytes.len(), "check", best(|| copy(&mut copied), || sink(lc3::raw::check(&bytes))));
+    show_speed(bytes.len(), "load", best(|| copy(&mut copied), || sink(six.load_clean(&bytes, sizes))));
+    assert_eq!(stored, bytes);
+}
+
+fn show_speed(bytes: usize, what: &str, (copy, here): (Duration, Duration)) {
+    let speed = |time: Duration| bytes as f64 / time.as_secs_f64() / 1e6;
+    let times = here.as_secs_f64() / copy.as_secs_f64();
+    println!("{:<22} {bytes:>8} {what:<34} {:>10.0} {:>10.0} {times:>6.2}", "30,000 words stored", speed(copy), speed(here));
+}
+
 fn show(name: &str, bytes: usize, what: &str, (there, here): (Duration, Duration)) {
     let (a, b) = (there.as_secs_f64() * 1e3, here.as_secs_f64() * 1e3);
     println!("{name:<22} {bytes:>8} {what:<34} {a:>10.3} {b:>10.3} {:>6.2}", a / b);
@@ -205,5 +235,6 @@ pub fn bench(paths: &[String]) {
     }
     if paths.is_empty() {
         bench_links();
+        bench_stored();
     }
 }

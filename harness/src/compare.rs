@@ -24,9 +24,12 @@ pub struct Tally {
     pub promises: usize,
     pub links: usize,
     pub links_by_number: BTreeMap<u16, usize>,
+    /// Byte strings that were checked, and the answers.
+    pub strings: usize,
+    pub strings_by_number: BTreeMap<u16, usize>,
     pub random: Random,
     pub six: Six,
-    text: Vec<u8>,
+    pub text: Vec<u8>,
 }
 
 /// How many differences are printed whole.
@@ -47,6 +50,8 @@ impl Tally {
             promises: 0,
             links: 0,
             links_by_number: BTreeMap::new(),
+            strings: 0,
+            strings_by_number: BTreeMap::new(),
             random: Random::new(seed),
             six: Six::new(),
             text: vec![0; 1_000_000],

@@ -167,6 +167,17 @@ impl Six {
         raw::link(a, b, &mut self.buffers(n))
     }
 
+    /// Loads into dirty buffers of these sizes.
+    pub fn load(&mut self, bytes: &[u8], n: Sizes) -> Answer {
+        self.soil();
+        self.load_clean(bytes, n)
+    }
+
+    /// Loads into the buffers as they are.
+    pub fn load_clean(&mut self, bytes: &[u8], n: Sizes) -> Answer {
+        raw::load(bytes, &mut self.buffers(n))
+    }
+
     fn buffers(&mut self, n: Sizes) -> Buffers<'_> {
         Buffers {
             blocks: &mut self.blocks[..n.blocks],

@@ -17,19 +17,25 @@ mod reference;
 mod refusal;
 mod sample;
 mod spelling;
+mod stored;
+mod stored_sample;
+mod storing;
+mod strings;
 mod valid;
 
 use compare::Tally;
 use link_sample::LinkSample;
 use random::Random;
 use sample::Sample;
+use stored_sample::StoredSample;
+use strings::Damaged;
 
 const USAGE: &str = "\
-usage: harness compare [--count N] [--links N] [--seed N] [--sample FILE] [--link-sample FILE]
+usage: harness compare [--count N] [--links N] [--strings N] [--seed N] [--sample FILE] [--link-sample FILE] [--stored-sample FILE]
        harness bench [FILE...]
-  compare  N generated sources (default 200,000) and the fixed ones, and N generated sets of modules to link (default 100,000); exit code 1
-           where anything differs that docs/DIFFERENCES.md does not name
-  --sample, --link-sample
+  compare  N generated sources (default 200,000) and the fixed ones, N generated sets of modules to link (default 100,000), and at least N byte
+           strings to check and load (default 1,000,000); exit code 1 where anything differs that docs/DIFFERENCES.md does not name
+  --sample, --link-sample, --stored-sample
            write some of them with their answers, where nothing differs
   bench    the crate and the library on the same inputs, or on the sources named
 ";
@@ -37,13 +43,16 @@ usage: harness compare [--count N] [--links N] [--seed N] [--sample FILE] [--lin
 struct Options {
     count: usize,
     links: usize,
+    strings: usize,
     seed: u64,
     sample: Option<String>,
     link_sample: Option<String>,
+    stored_sample: Option<String>,
 }
 
 fn options(mut args: impl Iterator<Item = String>) -> Option<Options> {
-    let mut o = Options { count: 200_000, links: 100_000, seed: 1, sample: None, link_sample: None };
+    let mut o =
+        Options { count: 200_000, links: 100_000, strings: 1_000_000, seed: 1, sample: None, link_sample: None, stored_sample: None };
     while let Some(flag) = args.next() {
         let value = args.next()?;
         match &*flag {
@@ -51,7 +60,9 @@ fn options(mut args: impl Iterator<Item = String>) -> Option<Options> {
             "--links" => o.links = value.parse().ok()?,
             "--seed" => o.seed = value.parse().ok()?,
             "--sample" => o.sample = Some(value),
+            "--strings" => o.strings = value.parse().ok()?,
             "--link-sample" => o.link_sample = Some(value),
+            "--stored-sample" => o.stored_sample = Some(value),
             _ => return None,
         }
     }
@@ -70,6 +81,7 @@ fn compare(o: &Options) -> bool {
         }
     }
     let link_sample = compare_links(o, &mut tally);
+    let stored_sample = compare_stored(o, &mut tally);
     report(&tally);
     if tally.differences > 0 {
         return false;
@@ -81,6 +93,10 @@ fn compare(o: &Options) -> bool {
     if let Some(path) = &o.link_sample {
         let lines = link_sample.write(path).unwrap_or_else(|e| panic!("{path}: {e}"));
         println!("{path}: {lines} links");
+    }
+    if let Some(path) = &o.stored_sample {
+        let lines = stored_sample.write(path).unwrap_or_else(|e| panic!("{path}: {e}"));
+        println!("{path}: {lines} byte strings");
     }
     true
 }
@@ -94,6 +110,28 @@ fn compare_links(o: &Options, tally: &mut Tally) -> LinkSample {
         if o.link_sample.is_some() {
             answers.iter().for_each(|linked| sample.offer(&sources, linked));
         }
+    }
+    sample
+}
+
+/// Runs all byte strings, the same whatever went before: the shortest, the fixed ones, and objects of modules with their damaged forms until there
+/// are enough.
+fn compare_stored(o: &Options, tally: &mut Tally) -> StoredSample {
+    let (mut sample, mut random) = (StoredSample::default(), Random::new(o.seed));
+    tally.random = Random::new(o.seed);
+    let mut keep = |damaged: &Damaged, opened: &storing::Opened| sample.offer(damaged, opened);
+    for bytes in strings::shortest() {
+        let opened = tally.opened(&bytes);
+        keep(&Damaged { bytes, kind: "up to two bytes" }, &opened);
+    }
+    for fields in strings::fixed() {
+        for damaged in strings::damaged(&mut random, &fields) {
+            let opened = tally.opened(&damaged.bytes);
+            keep(&damaged, &opened);
+        }
+    }
+    while tally.strings < o.strings {
+        tally.stored_modules(&modules::any(&mut random), &mut keep);
     }
     sample
 }
@@ -114,6 +152,7 @@ fn report(tally: &Tally) {
         tally.sets, tally.links, tally.promises
     );
     println!("links by number: {:?}", tally.links_by_number);
+    println!("{} byte strings checked, by number: {:?}", tally.strings, tally.strings_by_number);
     println!("{} differences", tally.differences);
 }
 

@@ -14,7 +14,7 @@ fn name<'a>(o: &Lent<'a>, row: usize) -> Option<&'a [u8]> {
 }
 
 /// One label token in upper case, at most 64 bytes.
-fn good_name(name: &[u8]) -> bool {
+pub fn good_name(name: &[u8]) -> bool {
     let Ok(text) = std::str::from_utf8(name) else { return false };
     let mut lexer = Token::lexer(text);
     name.is_ascii()

@@ -21,11 +21,13 @@ mod instr;
 mod object;
 pub mod raw;
 mod refusal;
+mod stored;
 mod token;
 
 pub use instr::{disassemble_line, AsmInstr, ImmOrReg, Line, Reg};
 pub use object::{assemble, Block, Object, Symbol};
 pub use refusal::Refusal;
+pub use stored::BadField;
 pub use token::{first_refusal, next_token, tokens, Token, RESERVED};
 
 /// A part of a source: the bytes from its start to before its end.

@@ -1,4 +1,4 @@
-//! An assembled source, or several linked.
+//! An assembled source, several linked, or one that was stored.
 
 use crate::raw::{self, Answer, Buffers, Lent};
 use crate::Refusal;
@@ -52,14 +52,14 @@ pub fn assemble(src: &[u8]) -> Result<Object, Refusal> {
     o.made(&answer)
 }
 
-/// The counts of an answer on an object that `assemble` or `link` made, which no lookup and no listing refuses.
+/// The counts of an answer on an object that `assemble`, `link` or `from_bytes` made, which no lookup and no listing refuses.
 fn counts(answer: Answer) -> [usize; 4] {
     Refusal::or_counts(&answer).expect("an assembled object is an object")
 }
 
 impl Object {
     /// Buffers with nothing in them: tables of full size, and room for so many words.
-    fn blank(words: usize) -> Object {
+    pub(crate) fn blank(words: usize) -> Object {
         Object {
             counts: [0; 4],
             blocks: vec![0; raw::BLOCKS],
@@ -71,7 +71,7 @@ impl Object {
         }
     }
 
-    fn buffers(&mut self) -> Buffers<'_> {
+    pub(crate) fn buffers(&mut self) -> Buffers<'_> {
         Buffers {
             blocks: &mut self.blocks,
             words: &mut self.words,
@@ -83,7 +83,7 @@ impl Object {
     }
 
     /// What a call has made of its buffers.
-    fn made(mut self, answer: &Answer) -> Result<Object, Refusal> {
+    pub(crate) fn made(mut self, answer: &Answer) -> Result<Object, Refusal> {
         self.counts = Refusal::or_counts(answer)?;
         self.words.truncate(self.counts[1]);
         self.marks.truncate(self.counts[1]);

@@ -58,6 +58,7 @@ mod c {
     }
     on_object! {
         lc3_list(text: *mut u8, text_len: usize);
+        lc3_store(bytes: *mut u8, bytes_len: usize);
         lc3_lookup_label(name: *const u8, name_len: usize);
         lc3_rev_lookup_label(address: u32);
         lc3_link(
@@ -76,6 +77,24 @@ mod c {
         pub fn lc3_assemble(
             src: *const u8,
             src_len: usize,
+            blocks: *mut u16,
+            blocks_len: usize,
+            words: *mut u16,
+            words_len: usize,
+            marks: *mut u8,
+            marks_len: usize,
+            labels: *mut u32,
+            labels_len: usize,
+            relocations: *mut u32,
+            relocations_len: usize,
+            names: *mut u8,
+            names_len: usize,
+            out: *mut [u64; 9],
+        );
+        pub fn lc3_check(bytes: *const u8, bytes_len: usize, out: *mut [u64; 9]);
+        pub fn lc3_load(
+            bytes: *const u8,
+            bytes_len: usize,
             blocks: *mut u16,
             blocks_len: usize,
             words: *mut u16,
@@ -110,30 +129,50 @@ pub fn first_refusal(src: &[u8]) -> Answer {
     out
 }
 
+/// Bytes of a source or of a stored object into the lent buffers.
+macro_rules! into_buffers {
+    ($name:ident, $bytes:expr, $b:expr) => {{
+        let (bytes, b, mut out): (&[u8], &mut Buffers, _) = ($bytes, $b, [0; 9]);
+        // SAFETY: the bytes and each buffer are lent whole and no two overlap, being borrowed apart.
+        unsafe {
+            c::$name(
+                bytes.as_ptr(),
+                bytes.len(),
+                b.blocks.as_mut_ptr(),
+                b.blocks.len(),
+                b.words.as_mut_ptr(),
+                b.words.len(),
+                b.marks.as_mut_ptr(),
+                b.marks.len(),
+                b.labels.as_mut_ptr(),
+                b.labels.len(),
+                b.relocations.as_mut_ptr(),
+                b.relocations.len(),
+                b.names.as_mut_ptr(),
+                b.names.len(),
+                &mut out,
+            )
+        };
+        out
+    }};
+}
+
 /// Assembles. Counts: blocks, words, labels, relocations.
 pub fn assemble(src: &[u8], b: &mut Buffers) -> Answer {
+    into_buffers!(lc3_assemble, src, b)
+}
+
+/// Checks stored bytes. Counts: blocks, words, labels, relocations. The first span of 50 is the offset of the field, at both ends.
+pub fn check(bytes: &[u8]) -> Answer {
     let mut out = [0; 9];
-    // SAFETY: each buffer is lent whole and no two overlap, being borrowed apart.
-    unsafe {
-        c::lc3_assemble(
-            src.as_ptr(),
-            src.len(),
-            b.blocks.as_mut_ptr(),
-            b.blocks.len(),
-            b.words.as_mut_ptr(),
-            b.words.len(),
-            b.marks.as_mut_ptr(),
-            b.marks.len(),
-            b.labels.as_mut_ptr(),
-            b.labels.len(),
-            b.relocations.as_mut_ptr(),
-            b.relocations.len(),
-            b.names.as_mut_ptr(),
-            b.names.len(),
-            &mut out,
-        )
-    };
+    // SAFETY: the bytes are lent whole, and the answer has nine numbers.
+    unsafe { c::lc3_check(bytes.as_ptr(), bytes.len(), &mut out) };
     out
+}
+
+/// Loads stored bytes. Counts: blocks, words, labels, relocations. The first span of 50 is the offset of the field, at both ends.
+pub fn load(bytes: &[u8], b: &mut Buffers) -> Answer {
+    into_buffers!(lc3_load, bytes, b)
 }
 
 macro_rules! call_on {
@@ -156,6 +195,11 @@ macro_rules! call_on {
 /// Writes the listing to `text`. Counts: bytes, 0, 0, 0.
 pub fn list(o: Lent, text: &mut [u8]) -> Answer {
     call_on!(lc3_list, o, text.as_mut_ptr(), text.len())
+}
+
+/// Writes the stored form to `bytes`. Counts: bytes, 0, 0, 0.
+pub fn store(o: Lent, bytes: &mut [u8]) -> Answer {
+    call_on!(lc3_store, o, bytes.as_mut_ptr(), bytes.len())
 }
 
 /// What the object says of a name. Counts: found, external, address, 0.

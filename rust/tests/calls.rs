@@ -132,3 +132,41 @@ fn disassembly() {
     assert_eq!([0xF021, 0xF0FF, 0x4040].map(shown), ["PUTC", "TRAP xFF", "JSRR R1"]);
     assert_eq!((disassemble_line(0xD000), disassemble_line(0xC800)), (Line::Fill(0xD000), Line::Fill(0xC800)));
 }
+
+#[test]
+fn stored() {
+    let nothing = assemble(b"").unwrap();
+    assert_eq!(nothing.to_bytes(), [0, 0, 0]);
+    for src in [P1, P2, P3, b".orig 7\n.blkw 9\n.fill 1\n.blkw 2\n.end"] {
+        let object = assemble(src).unwrap();
+        let bytes = object.to_bytes();
+        assert_eq!(Object::from_bytes(&bytes).unwrap(), object);
+        for size in 0..bytes.len() {
+            assert!(Object::from_bytes(&bytes[..size]).unwrap_err().offset <= size);
+        }
+        let more = Object::from_bytes(&[&bytes[..], &[0]].concat()).unwrap_err();
+        assert_eq!((more.offset, more.wrong), (bytes.len(), "bytes after the end"));
+    }
+    let linked = linked(P2, P3).unwrap();
+    assert_eq!(Object::from_bytes(&linked.to_bytes()).unwrap().list(), P2_P3_LISTING);
+}
+
+#[test]
+fn stored_refusals() {
+    let wrong = |bytes: &[u8]| {
+        let refused = Object::from_bytes(bytes).unwrap_err();
+        (refused.offset, refused.wrong.split([',', ' ']).take(3).collect::<Vec<_>>().join(" "))
+    };
+    assert_eq!(wrong(&[]), (0, "the field that".to_string()));
+    assert_eq!(wrong(&[0]), (0, "a field that".to_string()));
+    assert_eq!(wrong(&[9, 0, 0]), (0, "no field has".to_string()));
+    assert_eq!(wrong(&[1, 0, 4, 0, 0, 0, 0]), (0, "a block with".to_string()));
+    assert_eq!(wrong(&[1, 0, 4, 0, 0, 0, 1, 3, 0, 2, 0, 2]), (7, "unset words where".to_string()));
+    assert_eq!(wrong(&[1, 0, 4, 0, 0, 0, 1, 2, 0, 0]), (7, "set words where".to_string()));
+    assert_eq!(wrong(&[5, 0, 1, b'a']), (0, "a label with".to_string()));
+    assert_eq!(wrong(&[6, 0, 3, 0, 0, b'A']), (0, "a relocation at".to_string()));
+    assert_eq!(wrong(&[1, 0, 4, 0, 0, 0, 1, 0, 0, 0]), (7, "the end with".to_string()));
+    assert_eq!(wrong(&[0, 0, 0, 0, 0, 0]), (3, "bytes after the".to_string()));
+    let refused = Object::from_bytes(&[0]).unwrap_err();
+    assert_eq!(refused.to_string(), "BadField (50) at 0: a field that is cut short");
+}

@@ -1,13 +1,14 @@
--- What a loop that copies a list into another at a place keeps. Assumes nothing.
-use Prim.Native.Nat.{ℕ, _+_, _≤_, _<_}
+-- What a loop that copies a list into another at a place keeps, and what is written behind what is laid. Assumes nothing.
+use Prim.Native.Nat.{ℕ, suc, _+_, _*_, _≤_, _<_}
 use mathlib.Core.Path.{_≡_, refl, ap, sym, _∙_}
-use mathlib.Core.List.{List, []}
+use mathlib.Core.List.{List, [], _∷_, _++_}
 use native.Mathlib.Omega.{arith}
 use native.Mathlib.Numerals.{add-one}
 use lib.ListN.{length, set, getD, length-set}
-use lib.Seq.{paste, paste-zero, paste-suc}
+use lib.Seq.{paste, paste-zero, paste-suc, sets-eq}
 use Rattle.rules.specs.Buffers.{zeros, lay}
-use Rattle.rules.proofs.Rows.{lay-nil, lay-more}
+use Rattle.rules.proofs.Rows.{length-lay, lay-nil, lay-more}
+use Rattle.base_buffers.specs.Rows.{withRow}
 
 pub record Pasted (d₀ : List ℕ) (at : ℕ) (s d : List ℕ) (i : ℕ) : Type 0 where
   pub within : i ≤ length s
@@ -32,3 +33,9 @@ pasted-all {d₀} {at} {s} {d} {i} p l = let e : i ≡ length s = omega arith in
 -- pasted at the front of zeros
 pub front : (z r s : List ℕ) (len : ℕ) → z ≡ zeros len → r ≡ paste z 0 s (length s) → length s ≤ len → r ≡ lay s len
 front z r s len e p h = p ∙ (ap (λ (x : List ℕ). paste x 0 s (length s)) (e ∙ sym (lay-nil len)) ∙ lay-more [] s len (omega arith))
+
+-- a row of two cells behind those that are laid
+pub row-laid : (l : List ℕ) (len k a b : ℕ) → length l ≡ k * 2 → k * 2 + 1 < len → withRow (lay l len) k a b ≡ lay (l ++ (a ∷ b ∷ [])) len
+row-laid l len k a b e h =
+    let d : k * 2 + 1 ≡ suc (k * 2) = omega arith in
+    rw (d, ← e) (sets-eq (a ∷ b ∷ []) (lay l len) (length l) (omega (arith, length-lay l len (omega arith))) ∙ lay-more l (a ∷ b ∷ []) len (omega arith))

@@ -69,5 +69,7 @@ pub const SHORT_BUFFER: u16 = 42;
 
 pub const BAD_OBJECT: u16 = 43;
 
-// Writing.
+// Stored bytes, and writing.
+pub const BAD_FIELD: u16 = 50;
+
 pub const NO_WRITE_ROOM: u16 = 51;

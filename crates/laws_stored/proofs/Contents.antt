@@ -95,6 +95,12 @@ mute-other (suc (suc (suc (suc (suc zero))))) c l = absurd (omega arith)
 mute-other (suc (suc (suc (suc (suc (suc zero)))))) c l = absurd (omega arith)
 mute-other (suc (suc (suc (suc (suc (suc (suc t))))))) c l = refl
 
+-- n numbers are n
+pub length-numbers : (b : List ℕ) (i n : ℕ) → length (numbersAt b i n) ≡ n
+unfolding numbersAt
+length-numbers b i zero = refl
+length-numbers b i (suc n) = ap suc (length-numbers b (i + 2) n)
+
 -- words, two bytes each
 number-shift : (a b : ℕ) (c : List ℕ) (i j : ℕ) → j ≡ i + 2 → numberAt (a ∷ b ∷ c) j ≡ numberAt c i
 number-shift a b c i j e =

@@ -20,7 +20,7 @@ use Rattle.laws_stored.proofs.Ordered.{Ends, Names, Placed, Places, Ord
 
 -- ROWS UP TO A BOUND, and one more
 
-abbrev ChainTo : ℕ → Table ℕ (List Cell) → ℕ → Type 0
+abbrev pub ChainTo : ℕ → Table ℕ (List Cell) → ℕ → Type 0
 ChainTo y [] z = y ≤ z
 ChainTo y (b ∷ bs) z = (y ≤ b .0) × (0 < length (b .1)) × (b .0 + length (b .1) ≤ wordRoom) × ChainTo (b .0 + length (b .1)) bs z
 
@@ -37,7 +37,7 @@ ends-is : (y : ℕ) (bs : Table ℕ (List Cell)) (z : ℕ) → ChainTo y bs z �
 ends-is y [] z c = tt
 ends-is y (b ∷ bs) z c = (c .2, ends-is (b .0 + length (b .1)) bs z (c .3))
 
-abbrev NamesTo : Name → Table Name Lab → Name → Type 0
+abbrev pub NamesTo : Name → Table Name Lab → Name → Type 0
 NamesTo l [] z = l ≡ z
 NamesTo l (e ∷ t) z = Before l (e .0) × (goodName (e .0) ≡ true) × NamesTo (e .0) t z
 
@@ -180,7 +180,7 @@ kept s (reloc a n) v k m = kept-reloc s a n k (may-reloc s a n m)
 
 -- AT THE END
 
-kept-ordered : (s : State) → Kept s → Ordered (held s)
+pub kept-ordered : (s : State) → Kept s → Ordered (held s)
 kept-ordered s k = record {
   chain = chain-is 0 (s .blocks) (s .floor) (k .chain);
   ends = ends-is 0 (s .blocks) (s .floor) (k .chain);

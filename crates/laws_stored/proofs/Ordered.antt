@@ -87,7 +87,7 @@ names-low : (l : Name) (t : Table Name Lab) → Names l t → Low nameOrder l t
 names-low l [] h = tt
 names-low l (e ∷ t) h = (h .0, low-down nameOrder l (e .0) t (h .0) (names-low (e .0) t (h .2)))
 
-names-sorted : (l : Name) (t : Table Name Lab) → Names l t → Sorted nameOrder t
+pub names-sorted : (l : Name) (t : Table Name Lab) → Names l t → Sorted nameOrder t
 names-sorted l [] h = tt
 names-sorted l (e ∷ t) h = (names-low (e .0) t (h .2), names-sorted (e .0) t (h .2))
 

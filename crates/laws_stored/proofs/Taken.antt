@@ -127,7 +127,7 @@ may-reloc s a n m =
 and-both : {a b : Bool} → a ≡ true → b ≡ true → (a && b) ≡ true
 and-both p q = rw (p, q) refl
 
-less-is : (a b : Name) → Before a b → isLess (nameOrder .tri a b) ≡ true
+pub less-is : (a b : Name) → Before a b → isLess (nameOrder .tri a b) ≡ true
 less-is a b h = go (nameOrder .tri a b)
   where
     go : (t : Tri Before a b) → isLess t ≡ true

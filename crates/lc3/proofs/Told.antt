@@ -5,7 +5,7 @@ use mathlib.Core.List.{List}
 use mathlib.Core.Option.{Option}
 use native.Mathlib.Omega.{arith}
 use lib.ListN.{length}
-use Rattle.rules.specs.Base.{Span, Outcome, ok, refused, span}
+use Rattle.rules.specs.Base.{Span, Outcome, ok, refused}
 use Rattle.rules.specs.Statements.{Stmt}
 use Rattle.rules.specs.Objects.{Object, Name, Counts, lookupLabel}
 use Rattle.rules.specs.Words as R
@@ -17,18 +17,18 @@ use Rattle.parse.specs.declared.Statements.{Statements}
 use Rattle.rules.specs.Calls.{OfObject, too-short, bad-object, on-object}
 use Rattle.rules.proofs.Bools.{never}
 use Rattle.link.specs.Call.{Linked}
-use Rattle.list.specs.Call.{Called}
-use Rattle.list.specs.declared.Listed.{Listed}
+use Rattle.object_answer.specs.Writes.{Writes}
+use Rattle.object_answer.specs.declared.Written.{Written}
 use Rattle.object_lookup.specs.Told.{said, found, Reversed}
 use Rattle.object_lookup.specs.declared.Said.{Said}
 use Rattle.object_lookup.specs.declared.Found.{Found}
 use Rattle.object_lookup.specs.declared.Found.the-variants as find
 use Rattle.laws.proofs.Single.{Single, source-single}
 use Rattle.object_answer.specs.declared.Answer as object_answer
-use Rattle.object_answer.specs.Meant.{Leaves}
+use Rattle.object_answer.specs.Meant.{meant, Leaves}
 use Rattle.lc3_answers.specs.declared.Reply.{Reply}
-use Rattle.lc3_answers.specs.Told.{reply, row, four, answered, nextTold, statementsTold, listedTold, saidTold, RowIn, foundTold, lineTold}
-use Rattle.lc3.specs.Calls.{checked, LinkCall, ListCall, LookupCall, RevLookupCall}
+use Rattle.lc3_answers.specs.Told.{reply, row, answered, nextTold, statementsTold, writtenTold, saidTold, RowIn, foundTold, lineTold}
+use Rattle.lc3.specs.Calls.{checked, LinkCall, WriteCall, LookupCall, RevLookupCall}
 
 -- the numbers put are those of the answer
 put : {r : Reply} {a : Answer} {out : List ℕ} → r ≡ reply a → out ≡ row r → out ≡ numbers a
@@ -56,16 +56,19 @@ module _ {r : Reply} {out : List ℕ} (p : out ≡ row r) where
   line-put q e = put (e ∙ ap (λ (x : R.Line). reply (lineTold x)) q) p
 
   pub linked-put : {c : Counts} {b : Buffers} {d : Counts} {e o o′ : Buffers} {a : object_answer.Answer} → Linked c b d e o a o′
-      → r ≡ reply (answered (a .number) (span (a .start) (a .end)) (span (a .start2) (a .end2)) (four (a .blocks) (a .words) (a .labels) (a .relocations))) → LinkCall c b d e o o′ out
+      → r ≡ reply (meant a) → LinkCall c b d e o o′ out
   linked-put l q = record { outcome = l .outcome; lent = l .is; answered = put (q ∙ ap reply (l .leaves .answer)) p; left = l .leaves .buffers }
 
+  pub answer-put : {t : Answer} {a : object_answer.Answer} → meant a ≡ t → r ≡ reply (meant a) → out ≡ numbers t
+  answer-put l e = put (e ∙ ap reply l) p
+
   pub assembled-put : {o : Outcome Object} {b b′ : Buffers} {a : object_answer.Answer} → Leaves o b a b′
-      → r ≡ reply (answered (a .number) (span (a .start) (a .end)) (span (a .start2) (a .end2)) (four (a .blocks) (a .words) (a .labels) (a .relocations))) → out ≡ numbers (answer o)
-  assembled-put l e = put (e ∙ ap reply (l .answer)) p
+      → r ≡ reply (meant a) → out ≡ numbers (answer o)
+  assembled-put l e = answer-put (l .answer) e
 
   module _ {c : Counts} {b : Buffers} where
-    pub list-put : {len : ℕ} {x : List ℕ} {l : Listed} → Called c b len l x → r ≡ reply (listedTold l) → ListCall c b len x out
-    list-put {l = l} q e = record { listed = l; called = q; told = put e p }
+    pub write-put : {rule : ℕ → Object → Outcome (List ℕ)} {len : ℕ} {x : List ℕ} {l : Written} → Writes rule c b len l x → r ≡ reply (writtenTold l) → WriteCall rule c b len x out
+    write-put {l = l} q e = record { written = l; called = q; told = put e p }
 
     pub lookup-put : {m : List ℕ} (s : Said) → OfObject c b (ok (lookupLabel (view c b) m)) (said s) → r ≡ reply (saidTold (said s)) → LookupCall c b m out
     lookup-put s q e = record { said = said s; lent = q; told = put e p }

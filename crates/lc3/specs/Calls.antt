@@ -10,13 +10,15 @@ use Rattle.rules.specs.Buffers.{Buffers, view}
 use Rattle.rules.specs.Answers.{Answer, answer, numbers, accepted, noCounts, refusal}
 use Rattle.rules.specs.Calls.{OfObject, leftObject}
 use Rattle.rules.proofs.Calls.{answered-once}
+use Rattle.rules.specs.Listing.{list}
+use Rattle.rules.specs.Stored.{store}
 use Rattle.link.specs.Call.{Outcomes}
-use Rattle.list.specs.Call.{Called, one-answer, one-buffer}
-use Rattle.list.specs.declared.Listed.{Listed}
+use Rattle.object_answer.specs.Writes.{Writes, one-answer, one-buffer}
+use Rattle.object_answer.specs.declared.Written.{Written}
 use Rattle.object_lookup.specs.Told.{Reversed}
 use Rattle.object_lookup.specs.declared.Found.{Found}
 use Rattle.object_lookup.proofs.Once.{found-once}
-use Rattle.lc3_answers.specs.Told.{listedTold, saidTold, foundTold}
+use Rattle.lc3_answers.specs.Told.{writtenTold, saidTold, foundTold}
 
 -- all statements of a source, with no counts
 abbrev pub checked : Outcome (List Stmt) → Answer
@@ -30,11 +32,18 @@ pub record LinkCall (c : Counts) (b : Buffers) (d : Counts) (e out out′ : Buff
   pub answered : told ≡ numbers (answer outcome)
   pub left : out′ ≡ leftObject outcome out
 
--- the listing, its bytes in `text` of `len` bytes, zeros after them
-pub record ListCall (c : Counts) (b : Buffers) (len : ℕ) (text out : List ℕ) : Type 0 where
-  pub listed : Listed
-  pub called : Called c b len listed text
-  pub told : out ≡ numbers (listedTold listed)
+-- what a rule writes of an object, its bytes in `text` of `len` bytes, zeros after them
+pub record WriteCall (rule : ℕ → Object → Outcome (List ℕ)) (c : Counts) (b : Buffers) (len : ℕ) (text out : List ℕ) : Type 0 where
+  pub written : Written
+  pub called : Writes rule c b len written text
+  pub told : out ≡ numbers (writtenTold written)
+
+-- the listing; the stored form
+abbrev pub ListCall : Counts → Buffers → ℕ → (text out : List ℕ) → Type 0
+ListCall c b len text out = WriteCall list c b len text out
+
+abbrev pub StoreCall : Counts → Buffers → ℕ → (text out : List ℕ) → Type 0
+StoreCall c b len text out = WriteCall store c b len text out
 
 -- what the object says of the name m
 pub record LookupCall (c : Counts) (b : Buffers) (m : List ℕ) (out : List ℕ) : Type 0 where
@@ -57,11 +66,11 @@ module _ {c : Counts} {b : Buffers} {d : Counts} {e out : Buffers} where
   link-object-once p q = p .left ∙ (ap (λ (o : Outcome Object). leftObject o out) (answered-once (p .lent) (q .lent)) ∙ sym (q .left))
 
 module _ {c : Counts} {b : Buffers} where
-  pub list-call-once : {len : ℕ} {x y out also : List ℕ} → ListCall c b len x out → ListCall c b len y also → out ≡ also
-  list-call-once p q = p .told ∙ (ap (λ (r : Listed). numbers (listedTold r)) (one-answer (p .called) (q .called)) ∙ sym (q .told))
+  pub write-call-once : {rule : ℕ → Object → Outcome (List ℕ)} {len : ℕ} {x y out also : List ℕ} → WriteCall rule c b len x out → WriteCall rule c b len y also → out ≡ also
+  write-call-once p q = p .told ∙ (ap (λ (r : Written). numbers (writtenTold r)) (one-answer (p .called) (q .called)) ∙ sym (q .told))
 
-  pub list-text-once : {len : ℕ} {x y out also : List ℕ} → ListCall c b len x out → ListCall c b len y also → x ≡ y
-  list-text-once p q = one-buffer (p .called) (q .called)
+  pub write-text-once : {rule : ℕ → Object → Outcome (List ℕ)} {len : ℕ} {x y out also : List ℕ} → WriteCall rule c b len x out → WriteCall rule c b len y also → x ≡ y
+  write-text-once p q = one-buffer (p .called) (q .called)
 
   pub lookup-call-once : {m out also : List ℕ} → LookupCall c b m out → LookupCall c b m also → out ≡ also
   lookup-call-once p q = p .told ∙ (ap (λ (o : Outcome (Option Lab)). numbers (saidTold o)) (answered-once (p .lent) (q .lent)) ∙ sym (q .told))

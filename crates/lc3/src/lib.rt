@@ -6,12 +6,14 @@ ghost use Rattle.rules.specs.Tokens.{nextToken};
 ghost use Rattle.rules.specs.Words.{line};
 ghost use Rattle.rules.specs.Buffers.{six};
 ghost use Rattle.rules.specs.Answers.{numbers, answer};
+ghost use Rattle.rules.specs.Stored.{check};
 ghost use Rattle.lex_token.specs.Coded.{coded};
 ghost use Rattle.parse.specs.Coded.{sourceStatements};
 ghost use Rattle.rules.specs.Calls.{leftObject};
 ghost use Rattle.asm.specs.Call.{called};
+ghost use Rattle.stored_load.specs.Call.{called as loading};
 ghost use Rattle.lc3_answers.specs.Told.{four, nextTold, lineTold};
-ghost use Rattle.lc3.specs.Calls.{checked, LinkCall, ListCall, LookupCall, RevLookupCall};
+ghost use Rattle.lc3.specs.Calls.{checked, LinkCall, ListCall, StoreCall, LookupCall, RevLookupCall};
 
 // The next token from `at` on: its place, its sort and its value; or its refusal.
 #[no_mangle]
@@ -56,18 +58,7 @@ pub extern "C" fn lc3_assemble(
     ensures { λ _. ⌜ six (now (blocks .exit)) (now (words .exit)) (now (marks .exit)) (now (labels .exit)) (now (relocations .exit)) (now (names .exit)) ≡ leftObject (called (six (now (blocks .entry)) (now (words .entry)) (now (marks .entry)) (now (labels .entry)) (now (relocations .entry)) (now (names .entry))) (now (src .entry))) (six (now (blocks .entry)) (now (words .entry)) (now (marks .entry)) (now (labels .entry)) (now (relocations .entry)) (now (names .entry))) ⌝ }
 {
     let a = asm::assemble(src, blocks, words, marks, labels, relocations, names);
-    let r = lc3_answers::told_answer(
-        a.number,
-        a.start,
-        a.end,
-        a.start2,
-        a.end2,
-        a.blocks,
-        a.words,
-        a.labels,
-        a.relocations,
-    );
-    lc3_answers::put_answer(out, r);
+    lc3_answers::put_answer(out, lc3_answers::told_answer(a));
 }
 
 // Two lent objects into a third, in the lent buffers: the counts of blocks, words, labels and relocations; or one refusal, and every buffer zero.
@@ -137,18 +128,7 @@ pub extern "C" fn lc3_link(
         relocations,
         names,
     );
-    let r = lc3_answers::told_answer(
-        linked.number,
-        linked.start,
-        linked.end,
-        linked.start2,
-        linked.end2,
-        linked.blocks,
-        linked.words,
-        linked.labels,
-        linked.relocations,
-    );
-    lc3_answers::put_answer(out, r);
+    lc3_answers::put_answer(out, lc3_answers::told_answer(linked));
 }
 
 // The listing of a lent object, into `text`: how many bytes; or 42, 43 or 51.
@@ -176,7 +156,62 @@ pub extern "C" fn lc3_list(
         relocations: n_relocations,
     };
     let listed = list::list(c, blocks, words, marks, labels, relocations, names, text);
-    lc3_answers::put_answer(out, lc3_answers::told_listed(listed));
+    lc3_answers::put_answer(out, lc3_answers::told_written(listed));
+}
+
+// A lent object in its stored form, into `bytes`: how many; or 42, 43 or 51.
+#[no_mangle]
+pub extern "C" fn lc3_store(
+    n_blocks: usize,
+    n_words: usize,
+    n_labels: usize,
+    n_relocations: usize,
+    blocks: &[u16],
+    words: &[u16],
+    marks: &[u8],
+    labels: &[u32],
+    relocations: &[u32],
+    names: &[u8],
+    bytes: &mut [u8],
+    out: &mut [u64; 9],
+)
+    ensures { λ _. ⌜ StoreCall (four «n_blocks» «n_words» «n_labels» «n_relocations») (six (now (blocks .entry)) (now (words .entry)) (now (marks .entry)) (now (labels .entry)) (now (relocations .entry)) (now (names .entry))) (length (now (bytes .entry))) (now (bytes .exit)) (now (out .exit)) ⌝ }
+{
+    let c = Counts {
+        blocks: n_blocks,
+        words: n_words,
+        labels: n_labels,
+        relocations: n_relocations,
+    };
+    let stored = stored::store(c, blocks, words, marks, labels, relocations, names, bytes);
+    lc3_answers::put_answer(out, lc3_answers::told_written(stored));
+}
+
+// Checks stored bytes: the counts of blocks, words, labels and relocations; or 50 and its offset.
+#[no_mangle]
+pub extern "C" fn lc3_check(bytes: &[u8], out: &mut [u64; 9])
+    ensures { λ _. ⌜ now (out .exit) ≡ numbers (answer (check (now (bytes .entry)))) ⌝ }
+{
+    lc3_answers::put_answer(out, lc3_answers::told_answer(stored_check::check(bytes)));
+}
+
+// Stored bytes to an object in the lent buffers: the counts of blocks, words, labels and relocations; or one refusal, and every buffer zero.
+#[no_mangle]
+pub extern "C" fn lc3_load(
+    bytes: &[u8],
+    blocks: &mut [u16],
+    words: &mut [u16],
+    marks: &mut [u8],
+    labels: &mut [u32],
+    relocations: &mut [u32],
+    names: &mut [u8],
+    out: &mut [u64; 9],
+)
+    ensures { λ _. ⌜ now (out .exit) ≡ numbers (answer (loading (six (now (blocks .entry)) (now (words .entry)) (now (marks .entry)) (now (labels .entry)) (now (relocations .entry)) (now (names .entry))) (now (bytes .entry)))) ⌝ }
+    ensures { λ _. ⌜ six (now (blocks .exit)) (now (words .exit)) (now (marks .exit)) (now (labels .exit)) (now (relocations .exit)) (now (names .exit)) ≡ leftObject (loading (six (now (blocks .entry)) (now (words .entry)) (now (marks .entry)) (now (labels .entry)) (now (relocations .entry)) (now (names .entry))) (now (bytes .entry))) (six (now (blocks .entry)) (now (words .entry)) (now (marks .entry)) (now (labels .entry)) (now (relocations .entry)) (now (names .entry))) ⌝ }
+{
+    let a = stored_load::load(bytes, blocks, words, marks, labels, relocations, names);
+    lc3_answers::put_answer(out, lc3_answers::told_answer(a));
 }
 
 // What a lent object says of a name: found, external, the address; or 42 or 43.

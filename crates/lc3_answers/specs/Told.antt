@@ -15,8 +15,8 @@ use Rattle.lex_token.specs.declared.Lexeme.{Lexeme}
 use Rattle.lex_token.specs.Flat.{lexeme, flatToken}
 use Rattle.parse.specs.declared.Statements.{Statements}
 use Rattle.parse.specs.declared.Statements.the-variants as all
-use Rattle.list.specs.declared.Listed.{Listed}
-use Rattle.list.specs.declared.Listed.the-variants as list
+use Rattle.object_answer.specs.declared.Written.{Written}
+use Rattle.object_answer.specs.declared.Written.the-variants.{Bytes, Refused}
 use Rattle.object_lookup.specs.declared.Found.{Found}
 use Rattle.object_lookup.specs.declared.Found.the-variants as find
 use Rattle.lc3_answers.specs.declared.Reply.{Reply}
@@ -67,10 +67,10 @@ abbrev pub statementsTold : Statements → Answer
 statementsTold all.Accepted = counted 0 0 0 0
 statementsTold (all.Refused n a e) = refusedAt n (span a e)
 
--- a listing: how many bytes
-abbrev pub listedTold : Listed → Answer
-listedTold (list.Bytes n) = counted n 0 0 0
-listedTold (list.Refused n) = refusedAt n nowhere
+-- a listing or a stored object: how many bytes
+abbrev pub writtenTold : Written → Answer
+writtenTold (Bytes n) = counted n 0 0 0
+writtenTold (Refused n) = refusedAt n nowhere
 
 -- a name: found, external, its address
 abbrev pub saidTold : Outcome (Option Lab) → Answer

@@ -9,7 +9,8 @@ use isa::disassembly::Line;
 use lex_reserved::Ident;
 use lex_token::Next;
 use lex_token::Token;
-use list::Listed;
+use object_answer::Answer;
+use object_answer::Written;
 use object_lookup::Found;
 use object_lookup::Said;
 use parse::Statements;
@@ -20,8 +21,9 @@ ghost use Rattle.rules.specs.Base.{span};
 ghost use Rattle.isa.specs.Instructions.{meant, operandOf};
 ghost use Rattle.isa.specs.Disassembly.{meantLine};
 ghost use Rattle.lex_token.specs.Flat.{lexeme, flatIdent, flatToken};
+ghost use Rattle.object_answer.specs.Meant.{meant as meantAnswer};
 ghost use Rattle.object_lookup.specs.Told.{said};
-ghost use Rattle.lc3_answers.specs.Told.{reply, row, four, answered, counted, refusedAt, tokenTold, nextTold, statementsTold, listedTold, saidTold, RowIn, foundTold, operandTold, instrTold, lineTold};
+ghost use Rattle.lc3_answers.specs.Told.{reply, row, four, answered, counted, refusedAt, tokenTold, nextTold, statementsTold, writtenTold, saidTold, RowIn, foundTold, operandTold, instrTold, lineTold};
 
 pub struct Reply {
     pub number: u64,
@@ -86,30 +88,20 @@ fn refused(number: u64, start: usize, end: usize) -> Reply
     }
 }
 
-// An answer with two places and four counts.
-pub fn told_answer(
-    number: u16,
-    start: usize,
-    end: usize,
-    start2: usize,
-    end2: usize,
-    first: usize,
-    second: usize,
-    third: usize,
-    fourth: usize,
-) -> Reply
-    ensures { λ r. ⌜ r ≡ reply (answered number (span start end) (span start2 end2) (four first second third fourth)) ⌝ }
+// The answer of a call that makes an object, with two places and four counts.
+pub fn told_answer(a: Answer) -> Reply
+    ensures { λ r. ⌜ r ≡ reply (meantAnswer a) ⌝ }
 {
     Reply {
-        number: long16(number),
-        start: long(start),
-        end: long(end),
-        start2: long(start2),
-        end2: long(end2),
-        first: long(first),
-        second: long(second),
-        third: long(third),
-        fourth: long(fourth),
+        number: long16(a.number),
+        start: long(a.start),
+        end: long(a.end),
+        start2: long(a.start2),
+        end2: long(a.end2),
+        first: long(a.blocks),
+        second: long(a.words),
+        third: long(a.labels),
+        fourth: long(a.relocations),
     }
 }
 
@@ -176,13 +168,13 @@ pub fn told_statements(statements: Statements) -> Reply
     }
 }
 
-// The answer of listing.
-pub fn told_listed(listed: Listed) -> Reply
-    ensures { λ r. ⌜ r ≡ reply (listedTold listed) ⌝ }
+// The answer of writing bytes: a listing, a stored object.
+pub fn told_written(written: Written) -> Reply
+    ensures { λ r. ⌜ r ≡ reply (writtenTold written) ⌝ }
 {
-    match listed {
-        Listed::Bytes(n) => accepted(long(n), 0, 0, 0),
-        Listed::Refused(number) => refused(long16(number), 0, 0),
+    match written {
+        Written::Bytes(n) => accepted(long(n), 0, 0, 0),
+        Written::Refused(number) => refused(long16(number), 0, 0),
     }
 }
 

@@ -6,7 +6,7 @@ ghost use lib.ListN.{length, getD};
 ghost use Rattle.rules.specs.Objects.{addressOf};
 ghost use Rattle.rules.specs.Buffers.{flagOf, nameRow, labRow};
 ghost use Rattle.base_buffers.specs.Rows.{withRow};
-ghost use Rattle.object_layout_labels.specs.Laying.{Blank, RowRoom, PutLabel, LaidLabels};
+ghost use Rattle.object_layout_labels.specs.Laying.{Blank, PutLabel, LaidLabels};
 ghost use Rattle.link_notes.specs.Notes.{addressIn};
 ghost use Rattle.link_labels.specs.Matching.{bothLabels, RowIn, joinedAs, Sided, MatchReady, Matches};
 ghost use Rattle.link_labels.specs.Laying.{due, sideOf, notedLab, NotedRoom, LayReady};
@@ -15,12 +15,12 @@ use base_capacities::EXTERNAL;
 use base_capacities::LABEL_ADDRESS;
 use base_capacities::LABEL_CELLS;
 use base_capacities::LABEL_FLAG;
-use base_capacities::NAME_LENGTH;
-use base_capacities::NAME_START;
 use base_casts::narrow;
 use base_casts::wide;
 use base_text::Order;
 use link_notes::OPEN;
+use object_layout_labels::NO_ADDRESS;
+use object_layout_labels::put_label;
 
 // Which object has the next row of the result.
 enum Side {
@@ -207,31 +207,6 @@ fn next_due(
     }
     Side::Over
 }
-
-// The label of row k, whose name goes behind `at` name bytes; the place behind it.
-fn put_label(
-    labels: &mut [u32],
-    names: &mut [u8],
-    k: usize,
-    at: usize,
-    address: u32,
-    flag: u32,
-    name: &[u8],
-) -> usize
-    requires { ⌜ RowRoom (now labels) (now names) k at (now name) ⌝ }
-    ensures { λ r. ⌜ PutLabel (now (labels .entry)) (now (names .entry)) (now (labels .exit)) (now (names .exit)) k at address flag (now (name .entry)) r ⌝ }
-{
-    let i = k * LABEL_CELLS;
-    labels[i] = address;
-    labels[i + LABEL_FLAG] = flag;
-    labels[i + NAME_START] = narrow(at);
-    labels[i + NAME_LENGTH] = narrow(name.len());
-    base_buffers::put_u8(names, at, name);
-    at + name.len()
-}
-
-// The address that an external has in its row.
-const NO_ADDRESS: u32 = 0;
 
 // Row i of `rows`, whose names stand in `bytes`, goes to row k, as its note says.
 fn lay_noted(

@@ -5,15 +5,15 @@ use mathlib.Core.List.{List, [], _∷_, _++_, append-assoc, append-nil}
 use Prim.Native.Nat.{ℕ, suc, _+_, _*_, _≤_, _<_}
 use native.Mathlib.Omega.{arith}
 use native.Mathlib.Decide.{decLt}
-use lib.ListN.{length, getD, set, length-append, length-set, length-replicate}
-use lib.Seq.{paste, sets-eq}
+use lib.ListN.{length, getD, length-append, length-set, length-replicate}
 use Rattle.rules.specs.Tables.{Table, Tri, less, same, more, nat-tri, natOrder, newer}
 use Rattle.rules.specs.Buffers.{Up, zeros, lay}
-use Rattle.rules.proofs.Rows.{lay-nil, lay-more}
+use Rattle.rules.proofs.Rows.{lay-nil}
 use Rattle.rules.proofs.Merging.{left, left-start, left-over, left-first, left-second}
 use Rattle.object.specs.Decides.{Decides, decides-yes, decides-no}
 use Rattle.object_layout_labels.specs.Laying.{Blank}
 use Rattle.base_buffers.specs.Rows.{withRow}
+use Rattle.base_buffers.proofs.Pasted.{row-laid}
 use Rattle.link_notes.specs.Notes.{carried, carriedRows}
 use Rattle.link_relocations.specs.Open.{isOpen, openRows, bothRows, rowCells, putOpen, rowAfter, Carried, Both, Placed, Next}
 use Rattle.link_relocations.proofs.Sieved.{open-none, open-stays, open-goes, put-stays, put-goes, row-stays, row-goes}
@@ -44,18 +44,9 @@ cells-append [] t = refl
 cells-append (e ∷ s) t = ap (λ (l : List ℕ). e .0 ∷ e .1 .0 ∷ l) (cells-append s t)
 
 -- a row more behind those that are laid
-row-laid : (t : Table ℕ (ℕ × ℕ)) (e : ℕ × (ℕ × ℕ)) (len k : ℕ) → length t ≡ k → k * 2 + 1 < len → length (lay (rowCells t) len) ≡ len
-    → withRow (lay (rowCells t) len) k (e .0) (e .1 .0) ≡ lay (rowCells (t ++ (e ∷ []))) len
-row-laid t e len k q h z =
-    let c : k * 2 ≡ length (rowCells t) = omega (arith, length-cells t) in
-    let d : k * 2 + 1 ≡ suc (k * 2) = omega arith in
-    let r : List ℕ = e .0 ∷ e .1 .0 ∷ [] in
-    let s = sets-eq (e .0 ∷ e .1 .0 ∷ []) (lay (rowCells t) len) (k * 2) (omega arith) in
-    let b = ap (λ (x : ℕ). set (set (lay (rowCells t) len) (k * 2) (e .0)) x (e .1 .0)) d in
-    b
-    ∙ (s
-    ∙ (ap (λ (x : ℕ). paste (lay (rowCells t) len) x (e .0 ∷ e .1 .0 ∷ []) 2) c
-    ∙ (lay-more (rowCells t) (e .0 ∷ e .1 .0 ∷ []) len (omega arith) ∙ ap (λ (l : List ℕ). lay l len) (sym (cells-append t (e ∷ []))))))
+row-more : (t : Table ℕ (ℕ × ℕ)) (e : ℕ × (ℕ × ℕ)) (len k : ℕ) → length t ≡ k → k * 2 + 1 < len → withRow (lay (rowCells t) len) k (e .0) (e .1 .0) ≡ lay (rowCells (t ++ (e ∷ []))) len
+row-more t e len k q h =
+    row-laid (rowCells t) len k (e .0) (e .1 .0) (length-cells t ∙ ap (λ (n : ℕ). n * 2) q) h ∙ ap (λ (l : List ℕ). lay l len) (sym (cells-append t (e ∷ [])))
 
 -- THE LOOP
 
@@ -112,7 +103,7 @@ module _ {n : ℕ} {rs ns : List ℕ} {m : ℕ} {qs os out₀ out : List ℕ} {i
       let f : putOpen e k out ≡ lay (rowCells (M .done ++ (e ∷ []))) (length out₀) =
       put-stays e k out o
       ∙ (ap (λ (l : List ℕ). withRow l k (e .0) (e .1 .0)) (M .here)
-      ∙ row-laid (M .done) e (length out₀) k (M .rows) (omega (arith, room-for e t s o, M .size)) (ap length (sym (M .here)) ∙ M .size)) in
+      ∙ row-more (M .done) e (length out₀) k (M .rows) (omega (arith, room-for e t s o, M .size))) in
       record {
         given = b;
         first-in = hp;

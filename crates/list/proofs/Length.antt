@@ -17,7 +17,7 @@ use Rattle.list_sections.specs.Sizes.{SizedAll}
 use Rattle.list_sections.proofs.Blocks.{blockRow, carve-tab, sum-grows}
 use Rattle.list_sections.proofs.Sizes.{label-short}
 
-hex-size : (v : ℕ) → length (hex4 v) ≡ 4
+pub hex-size : (v : ℕ) → length (hex4 v) ≡ 4
 unfolding hex4
 hex-size v = refl
 
@@ -37,7 +37,7 @@ words-size a (c ∷ cs) =
     let s = length-append (hex4 a) (bytes " ") in
     omega (arith, hex-size a, cell-size c)
 
-block-size : (b : ℕ × List Cell) → length (blockLines b) ≡ 16 + length (b .1) * 10
+pub block-size : (b : ℕ × List Cell) → length (blockLines b) ≡ 16 + length (b .1) * 10
 unfolding blockLines
 block-size b =
     let p = length-append (bytes "BLOCK " ++ hex4 (b .0) ++ bytes " " ++ hex4 (length (b .1)) ++ lf) (wordLines (b .0) (b .1)) in

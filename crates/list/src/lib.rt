@@ -5,19 +5,14 @@ use base_refusals::SHORT_BUFFER;
 use list_lines::BLOCK_LINE_BYTES;
 use list_lines::WORD_LINE_BYTES;
 use object::Counts;
+use object_answer::Written;
 use object_check::Checked;
 ghost use mathlib.Core.Path.{_≡_};
 ghost use lib.ListN.{length};
 ghost use Rattle.rules.specs.Buffers.{six, Valid, view, zeros};
 ghost use Rattle.rules.specs.Listing.{listing};
 ghost use Rattle.object.specs.Meaning.{counts};
-ghost use Rattle.list.specs.Call.{Written, Called};
-
-// How many bytes the listing has, or the number of the refusal: 42, 43 or 51. None of these has a place.
-pub enum Listed {
-    Bytes(usize),
-    Refused(u16),
-}
+ghost use Rattle.list.specs.Call.{WrittenOf, Called};
 
 // How long the listing of a valid object is.
 fn listing_size(
@@ -49,14 +44,14 @@ fn list_object(
     relocations: &[u32],
     names: &[u8],
     out: &mut [u8],
-) -> Listed
+) -> Written
     requires { ⌜ Valid (counts c) (six (now blocks) (now words) (now marks) (now labels) (now relocations) (now names)) ⌝ }
     requires { ⌜ now out ≡ zeros (length (now out)) ⌝ }
-    ensures { λ r. ⌜ Written (view (counts c) (six (now (blocks .entry)) (now (words .entry)) (now (marks .entry)) (now (labels .entry)) (now (relocations .entry)) (now (names .entry)))) (length (now (out .entry))) r (now (out .exit)) ⌝ }
+    ensures { λ r. ⌜ WrittenOf (view (counts c) (six (now (blocks .entry)) (now (words .entry)) (now (marks .entry)) (now (labels .entry)) (now (relocations .entry)) (now (names .entry)))) (length (now (out .entry))) r (now (out .exit)) ⌝ }
 {
     let size = listing_size(c, labels, relocations, names, blocks, words, marks);
     if out.len() < size {
-        return Listed::Refused(NO_WRITE_ROOM);
+        return Written::Refused(NO_WRITE_ROOM);
     }
     let b = c.blocks;
     let w = c.words;
@@ -65,7 +60,7 @@ fn list_object(
     let first = list_sections::put_blocks(out, 0, blocks, b, words, marks, w);
     let second = list_sections::put_labels(out, first, labels, names, l);
     let end = list_sections::put_relocations(out, second, relocations, labels, names, n);
-    Listed::Bytes(end)
+    Written::Bytes(end)
 }
 
 // The listing of a lent object.
@@ -78,13 +73,13 @@ pub fn list(
     relocations: &[u32],
     names: &[u8],
     out: &mut [u8],
-) -> Listed
+) -> Written
     ensures { λ r. ⌜ Called (counts c) (six (now (blocks .entry)) (now (words .entry)) (now (marks .entry)) (now (labels .entry)) (now (relocations .entry)) (now (names .entry))) (length (now (out .entry))) r (now (out .exit)) ⌝ }
 {
     base_buffers::zero_u8(out);
     match object_check::check_object(c, blocks, words, marks, labels, relocations, names) {
         Checked::Object => list_object(c, blocks, words, marks, labels, relocations, names, out),
-        Checked::ShortBuffer => Listed::Refused(SHORT_BUFFER),
-        Checked::BadObject => Listed::Refused(BAD_OBJECT),
+        Checked::ShortBuffer => Written::Refused(SHORT_BUFFER),
+        Checked::BadObject => Written::Refused(BAD_OBJECT),
     }
 }

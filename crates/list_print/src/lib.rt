@@ -1,35 +1,99 @@
-// What a call that makes an object answers, printed on standard output: the object's listing, or REFUSED and the number.
+// The listing program on slices: what it prints for what was read of its input, left as bytes in a lent buffer.
+ghost use mathlib.Core.Path.{_≡_};
+ghost use mathlib.Core.Bool.{true, false};
+ghost use mathlib.Core.List.{List, _++_};
+ghost use Prim.Native.Nat.{ℕ, _+_, _≤_, _<_};
+ghost use lib.ListN.{length};
+ghost use Rattle.rules.specs.Base.{refuse, nowhere};
+ghost use Rattle.rules.specs.Buffers.{six, short, Valid, view};
+ghost use Rattle.rules.specs.Listing.{decimal, listing, printed, listingProgram};
+ghost use Rattle.object.specs.Meaning.{counts};
+ghost use Rattle.list_lines.specs.Appended.{Appended};
+ghost use Rattle.list_print.specs.Program.{follows, Wrote, countsIn, tells, Tellable};
 use base_capacities::BLOCKS;
 use base_capacities::LABELS;
 use base_capacities::NAME_BYTES;
 use base_capacities::RELOCATIONS;
-use libc::STDOUT_FILENO;
-use list::Listed;
+use base_refusals::SOURCE_TOO_LONG;
 use list_lines::BLOCK_LINE_BYTES;
 use list_lines::WORD_LINE_BYTES;
 use list_sections::LABEL_LINE_REST;
 use list_sections::RELOCATION_LINE_REST;
 use object::Counts;
 use object_answer::Answer;
+use object_answer::Written;
 
-// How many words the program's object may have.
+// How many bytes of source and how many words the program has room for.
+pub const SOURCE_BYTES: usize = 65536;
+
 const WORDS: usize = 32768;
 
-// The longest listing of such an object.
-const LISTING_BYTES: usize = BLOCKS * BLOCK_LINE_BYTES
+// The longest listing of an object with so many words.
+pub const LISTING_BYTES: usize = BLOCKS * BLOCK_LINE_BYTES
     + WORDS * WORD_LINE_BYTES
     + LABELS * (NAME_BYTES + LABEL_LINE_REST)
     + RELOCATIONS * (NAME_BYTES + RELOCATION_LINE_REST);
 
+// A decimal digit.
+fn digit(n: u16) -> u8
+    requires { ⌜ n < 10 ⌝ }
+    ensures { λ r. ⌜ r ≡ 48 + n ⌝ }
+{
+    b'0' + n as u8
+}
+
+// A number below 100, one digit or two.
+fn put_decimal(out: &mut [u8], at: usize, number: u16) -> usize
+    requires { ⌜ number < 100 ⌝ }
+    requires { ⌜ at + 2 ≤ length (now out) ⌝ }
+    ensures { λ r. ⌜ Appended (now (out .entry)) (now (out .exit)) at r (decimal number) ⌝ }
+{
+    if number < 10 {
+        let one = [digit(number)];
+        return list_lines::put_text(out, at, &one);
+    }
+    let two = [digit(number / 10), digit(number % 10)];
+    list_lines::put_text(out, at, &two)
+}
+
 // A refusal's line.
-pub fn print_refused(number: u64) {
-    io::write_all(STDOUT_FILENO, b"REFUSED ");
-    io::print_decimal(STDOUT_FILENO, number);
-    io::write_all(STDOUT_FILENO, b"\n");
+fn write_refused(text: &mut [u8], number: u16) -> usize
+    requires { ⌜ number < 100 ⌝ }
+    requires { ⌜ 11 ≤ length (now text) ⌝ }
+    ensures { λ r. ⌜ Wrote (printed (refuse number nowhere)) (length (now (text .entry))) r (now (text .exit)) ⌝ }
+{
+    base_buffers::zero_u8(text);
+    let a = list_lines::put_text(text, 0, b"REFUSED ");
+    let b = put_decimal(text, a, number);
+    list_lines::put_text(text, b, b"\n")
+}
+
+// The listing of a valid object.
+fn write_object(
+    c: Counts,
+    blocks: &[u16],
+    words: &[u16],
+    marks: &[u8],
+    labels: &[u32],
+    relocations: &[u32],
+    names: &[u8],
+    text: &mut [u8],
+) -> usize
+    requires { ⌜ Valid (counts c) (six (now blocks) (now words) (now marks) (now labels) (now relocations) (now names)) ⌝ }
+    requires { ⌜ short (six (now blocks) (now words) (now marks) (now labels) (now relocations) (now names)) ≡ false ⌝ }
+    requires { ⌜ length (listing (view (counts c) (six (now blocks) (now words) (now marks) (now labels) (now relocations) (now names)))) ≤ length (now text) ⌝ }
+    ensures { λ r. ⌜ Wrote (listing (view (counts c) (six (now (blocks .entry)) (now (words .entry)) (now (marks .entry)) (now (labels .entry)) (now (relocations .entry)) (now (names .entry))))) (length (now (text .entry))) r (now (text .exit)) ⌝ }
+{
+    match list::list(c, blocks, words, marks, labels, relocations, names, text) {
+        Written::Bytes(n) => n,
+        Written::Refused(_) => 0,
+    }
 }
 
 // The counts of an accepted object.
-fn counts_of(answer: Answer) -> Counts {
+fn counts_of(answer: Answer) -> Counts
+    ensures { λ r. ⌜ r ≡ countsIn answer ⌝ }
+{
     Counts {
         blocks: answer.blocks,
         words: answer.words,
@@ -38,44 +102,8 @@ fn counts_of(answer: Answer) -> Counts {
     }
 }
 
-// What a listing answers: its bytes, which stand in the text, or a refusal.
-fn print_listed(listed: Listed, text: &[u8]) {
-    match listed {
-        Listed::Bytes(n) => {
-            if n <= text.len() {
-                io::write_all(STDOUT_FILENO, &text[..n]);
-            }
-        }
-        Listed::Refused(number) => print_refused(number as u64),
-    }
-}
-
-// The listing of a lent object, whose longest one the text holds.
-fn print_object(
-    c: Counts,
-    blocks: &[u16],
-    words: &[u16],
-    marks: &[u8],
-    labels: &[u32],
-    relocations: &[u32],
-    names: &[u8],
-) {
-    let mut text = [0u8; LISTING_BYTES];
-    let listed = list::list(
-        c,
-        blocks,
-        words,
-        marks,
-        labels,
-        relocations,
-        names,
-        &mut text,
-    );
-    print_listed(listed, &text);
-}
-
 // What a call has answered: the listing of the object that it left in these buffers, or its refusal.
-pub fn print_answer(
+fn write_answer(
     answer: Answer,
     blocks: &[u16],
     words: &[u16],
@@ -83,24 +111,24 @@ pub fn print_answer(
     labels: &[u32],
     relocations: &[u32],
     names: &[u8],
-) {
+    text: &mut [u8],
+) -> usize
+    requires { ⌜ Tellable answer (six (now blocks) (now words) (now marks) (now labels) (now relocations) (now names)) (length (now text)) ⌝ }
+    ensures { λ r. ⌜ Wrote (tells answer (six (now (blocks .entry)) (now (words .entry)) (now (marks .entry)) (now (labels .entry)) (now (relocations .entry)) (now (names .entry)))) (length (now (text .entry))) r (now (text .exit)) ⌝ }
+{
     if answer.number == 0 {
-        print_object(
-            counts_of(answer),
-            blocks,
-            words,
-            marks,
-            labels,
-            relocations,
-            names,
-        );
-        return;
+        let c = counts_of(answer);
+        return write_object(c, blocks, words, marks, labels, relocations, names, text);
     }
-    print_refused(answer.number as u64);
+    write_refused(text, answer.number)
 }
 
-// A source in the program's words.
-pub fn print_source(src: &[u8]) {
+// An input that the program holds whole.
+fn list_whole(src: &[u8], text: &mut [u8]) -> usize
+    requires { ⌜ length (now src) ≤ 65536 ⌝ }
+    requires { ⌜ 482304 ≤ length (now text) ⌝ }
+    ensures { λ r. ⌜ Wrote (listingProgram (now (src .entry))) (length (now (text .entry))) r (now (text .exit)) ⌝ }
+{
     let mut blocks = [0u16; object::BLOCK_ROOM];
     let mut words = [0u16; WORDS];
     let mut marks = [0u8; WORDS];
@@ -116,7 +144,7 @@ pub fn print_source(src: &[u8]) {
         &mut relocations,
         &mut names,
     );
-    print_answer(
+    write_answer(
         answer,
         &blocks,
         &words,
@@ -124,5 +152,20 @@ pub fn print_source(src: &[u8]) {
         &labels,
         &relocations,
         &names,
-    );
+        text,
+    )
+}
+
+// What the program prints, of an input of which it has read `src`: all of it, or, where more follows, as many bytes as it has room for.
+pub fn list_source(src: &[u8], more: bool, text: &mut [u8]) -> usize
+    requires { ⌜ length (now src) ≤ 65536 ⌝ }
+    requires { ⌜ (more ≡ true → length (now src) ≡ 65536) ⌝ }
+    requires { ⌜ 482304 ≤ length (now text) ⌝ }
+    ensures { λ r. ⌜ ((rest : List ℕ) → more ≡ follows rest → Wrote (listingProgram (now (src .entry) ++ rest)) (length (now (text .entry))) r (now (text .exit))) ⌝ }
+    ensures { λ r. ⌜ r ≤ length (now (text .exit)) ⌝ }
+{
+    if more {
+        return write_refused(text, SOURCE_TOO_LONG);
+    }
+    list_whole(src, text)
 }

@@ -19,8 +19,8 @@ unfolding answer
 accepted-left b r b′ o l g s w = record { good = g; laid = l .buffers; counts = l .answer; valid = rw (l .buffers) (layout-valid o b g s w) }
 
 -- one answer
-answer-back : (r t : Answer) → meant r ≡ meant t → r ≡ t
-answer-back r t e = λ i. record {
+pub meant-once : (r t : Answer) → meant r ≡ meant t → r ≡ t
+meant-once r t e = λ i. record {
   number = e i .number;
   start = e i .first .start;
   end = e i .first .stop;
@@ -33,4 +33,4 @@ answer-back r t e = λ i. record {
 }
 
 pub left-once : (o : Outcome Object) (b : Buffers) (r t : Answer) (x y : Buffers) → Leaves o b r x → Leaves o b t y → (r ≡ t) × (x ≡ y)
-left-once o b r t x y p q = (answer-back r t (p .answer ∙ sym (q .answer)), p .buffers ∙ sym (q .buffers))
+left-once o b r t x y p q = (meant-once r t (p .answer ∙ sym (q .answer)), p .buffers ∙ sym (q .buffers))

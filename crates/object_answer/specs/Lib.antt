@@ -1,2 +1,3 @@
 -- What the contracts of calls that make an object cite. Assumes nothing.
 pub mod Meant
+pub mod Writes

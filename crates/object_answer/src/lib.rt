@@ -1,4 +1,4 @@
-// The answer of a call that makes an object: acceptance with the object's counts, or a refusal with its two places.
+// The answers of calls: of one that makes an object, acceptance with the object's counts or a refusal with its two places; of one that writes bytes, how many.
 ghost use mathlib.Core.Path.{_≡_};
 ghost use Rattle.object_answer.specs.Meant.{accepting, refusing};
 use object::Counts;
@@ -14,6 +14,12 @@ pub struct Answer {
     pub words: usize,
     pub labels: usize,
     pub relocations: usize,
+}
+
+// What a call answers that writes an object as bytes: how many, or the number of the refusal, 42, 43 or 51. None of these has a place.
+pub enum Written {
+    Bytes(usize),
+    Refused(u16),
 }
 
 // The answer of a refusal.

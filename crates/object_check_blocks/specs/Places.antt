@@ -1,4 +1,4 @@
--- Where the word of an address stands. Assumes nothing.
+-- Where the word of an address stands, and what a word and its mark keep. Assumes nothing.
 use mathlib.Core.Path.{_≡_}
 use mathlib.Core.List.{List}
 use Prim.Native.Nat.{ℕ, _+_, _≤_, _<_}
@@ -20,3 +20,8 @@ pub record Placed (n w : ℕ) (bs : List ℕ) (x : ℕ) (r : Place) : Type 0 whe
 -- word p is set, and 0
 pub record ZeroCell (ws ms : List ℕ) (p : ℕ) : Type 0 where
   pub cell : cellRow ws ms p ≡ word 0
+
+-- a word and its mark
+pub record Celled (w m : ℕ) : Type 0 where
+  pub mark : m ≤ 1
+  pub clear : m ≡ 0 → w ≡ 0

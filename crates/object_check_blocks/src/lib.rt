@@ -3,7 +3,7 @@ ghost use Prim.Native.Nat.{_<_};
 ghost use lib.ListN.{length};
 ghost use Rattle.rules.specs.Buffers.{BlocksOk, WordsOk, ZeroAt};
 ghost use Rattle.object.specs.Decides.{Decides};
-ghost use Rattle.object_check_blocks.specs.Places.{Placed, ZeroCell};
+ghost use Rattle.object_check_blocks.specs.Places.{Placed, ZeroCell, Celled};
 use base_capacities::BLOCK_CELLS;
 use base_capacities::BLOCK_LENGTH;
 use base_capacities::BLOCKS;
@@ -56,7 +56,14 @@ pub fn check_blocks(blocks: &[u16], n: usize, w: usize) -> bool
     false
 }
 
-// The first w marks are 0 or 1, and a word whose mark is 0 is 0.
+// A mark is 1, or 0 beside a word that is 0.
+fn check_cell(word: u16, mark: u8) -> bool
+    ensures { λ r. ⌜ Decides (Celled word mark) r ⌝ }
+{
+    (mark == SET) | ((mark == UNSET) & (word == 0))
+}
+
+// The first w marks are 0 or 1, and a word whose mark is 0 is 0. The loop has no exit, so that many words are looked at in one step.
 pub fn check_words(words: &[u16], marks: &[u8], w: usize) -> bool
     ensures { λ r. ⌜ Decides (WordsOk w (now (words .entry)) (now (marks .entry))) r ⌝ }
 {
@@ -66,19 +73,13 @@ pub fn check_words(words: &[u16], marks: &[u8], w: usize) -> bool
     if marks.len() < w {
         return false;
     }
+    let mut good = true;
     let mut i = 0;
     while i < w {
-        if SET < marks[i] {
-            return false;
-        }
-        if marks[i] == UNSET {
-            if words[i] != 0 {
-                return false;
-            }
-        }
+        good = good & check_cell(words[i], marks[i]);
         i += 1;
     }
-    true
+    good
 }
 
 // The place, among the words of all blocks, of the word at address x.

@@ -1,25 +1,22 @@
 -- What each way through the checks of label rows shows. Assumes nothing.
 use mathlib.Core.Path.{_≡_, refl, sym, _∙_, ap}
 use mathlib.Core.Bool.{Bool, true, false}
-use mathlib.Core.List.{List, map}
+use mathlib.Core.List.{List}
 use Prim.Native.Nat.{ℕ, suc, _+_, _-_, _*_, _≤_, _<_}
 use native.Mathlib.Nat.{not-suc-le-zero}
-use native.Mathlib.Decide.{decLt}
 use native.Mathlib.Omega.{arith}
 use lib.ListN.{length, getD}
 use borrow.Author.Count.{below-more}
-use Rattle.rules.specs.Tokens.{upper}
 use Rattle.rules.specs.Tables.{Before, before-irr, before-trans}
 use Rattle.rules.specs.Objects.{goodName}
 use Rattle.rules.specs.Buffers.{nameRow, LabelRow, LabelsOk}
-use Rattle.rules.proofs.Named.{name-upper}
 use Rattle.rules.proofs.Bools.{never}
 use Rattle.base_text.specs.Names.{ordered}
 use Rattle.base_text.specs.declared.Order.{Order}
 use Rattle.base_text.specs.declared.Order.the-variants.{Less, Same, Greater}
 use Rattle.object.specs.Decides.{Decides, decides-yes, decides-no}
 use Rattle.object.proofs.Order.{is-less, is-same, is-greater}
-use Rattle.object_check_labels.specs.Follows.{Flagged, Follows, Named}
+use Rattle.object_check_labels.specs.Follows.{Flagged, Follows}
 
 -- FLAGS
 module _ {a f : ℕ} where
@@ -63,19 +60,10 @@ module _ {ls ns : List ℕ} {k : ℕ} where
 pub follows-none : {ls ns : List ℕ} {k : ℕ} → k ≡ 0 → Decides (Follows ls ns k) true
 follows-none e = decides-yes (record { up = λ j q. absurd (omega arith) })
 
--- two good names in upper case are the names
-as-they-are : {ls ns x y : List ℕ} {k j : ℕ} {r : Order} → Named ls ns k → j ≤ k → x ≡ nameRow ls ns j → y ≡ nameRow ls ns k → r ≡ ordered (map upper x) (map upper y)
-    → r ≡ ordered (nameRow ls ns j) (nameRow ls ns k)
-as-they-are {ls} {ns} {k = k} {j = j} g l p q e =
-    let a = ap (map upper) p ∙ name-upper (nameRow ls ns j) (g .good j l) in
-    let b = ap (map upper) q ∙ name-upper (nameRow ls ns k) (g .good k (omega arith)) in
-    e ∙ (λ i. ordered (a i) (b i))
-
-module _ {ls ns x y : List ℕ} {k : ℕ} {r : Order} (g : Named ls ns k) (n : k ≡ 0 → ⊥) (p : x ≡ nameRow ls ns (k - 1)) (q : y ≡ nameRow ls ns k)
-    (e : r ≡ ordered (map upper x) (map upper y)) where
+module _ {ls ns x y : List ℕ} {k : ℕ} {r : Order} (n : k ≡ 0 → ⊥) (p : x ≡ nameRow ls ns (k - 1)) (q : y ≡ nameRow ls ns k) (e : r ≡ ordered x y) where
   pub follows-less : r ≡ Less → Decides (Follows ls ns k) true
   follows-less l =
-      let b : Before (nameRow ls ns (k - 1)) (nameRow ls ns k) = is-less (nameRow ls ns (k - 1)) (nameRow ls ns k) (as-they-are g (omega arith) p q e) l in
+      let b : Before (nameRow ls ns (k - 1)) (nameRow ls ns k) = is-less (nameRow ls ns (k - 1)) (nameRow ls ns k) (e ∙ (λ i. ordered (p i) (q i))) l in
       decides-yes (record { up = λ j h. (let w : j ≡ k - 1 = omega arith in rw w b) })
 
   before : Follows ls ns k → Before (nameRow ls ns (k - 1)) (nameRow ls ns k)
@@ -83,12 +71,12 @@ module _ {ls ns x y : List ℕ} {k : ℕ} {r : Order} (g : Named ls ns k) (n : k
 
   pub follows-same : r ≡ Same → Decides (Follows ls ns k) false
   follows-same l =
-      let b : nameRow ls ns (k - 1) ≡ nameRow ls ns k = is-same (nameRow ls ns (k - 1)) (nameRow ls ns k) (as-they-are g (omega arith) p q e) l in
+      let b : nameRow ls ns (k - 1) ≡ nameRow ls ns k = is-same (nameRow ls ns (k - 1)) (nameRow ls ns k) (e ∙ (λ i. ordered (p i) (q i))) l in
       decides-no (λ v. before-irr (nameRow ls ns k) (rw b at (before v)))
 
   pub follows-more : r ≡ Greater → Decides (Follows ls ns k) false
   follows-more l =
-      let b : Before (nameRow ls ns k) (nameRow ls ns (k - 1)) = is-greater (nameRow ls ns (k - 1)) (nameRow ls ns k) (as-they-are g (omega arith) p q e) l in
+      let b : Before (nameRow ls ns k) (nameRow ls ns (k - 1)) = is-greater (nameRow ls ns (k - 1)) (nameRow ls ns k) (e ∙ (λ i. ordered (p i) (q i))) l in
       decides-no (λ v. before-irr (nameRow ls ns k) (before-trans (nameRow ls ns k) (nameRow ls ns (k - 1)) (nameRow ls ns k) b (before v)))
 
 -- ALL ROWS
@@ -111,15 +99,6 @@ labels-none l r = record { within = omega arith; few = l; room = r; rows = λ j 
 module _ {n k : ℕ} {ls ns : List ℕ} (t : LabelsTo n ls ns k) (h : k < n) where
   pub labels-row : {r : Bool} → Decides (LabelRow ls ns k) r → r ≡ false → Decides (LabelsOk n ls ns) false
   labels-row d e = decides-no (λ v. d .no e (v .rows k h))
-
-  pub labels-named : {r : Bool} → Decides (LabelRow ls ns k) r → r ≡ true → Named ls ns k
-  labels-named d e = record { good = go }
-    where
-      go : (j : ℕ) → j ≤ k → goodName (nameRow ls ns j) ≡ true
-      go j l = elim (decLt j k) [
-        | yes p ↦ t .rows j p .name
-        | no p ↦ (let w : j ≡ k = omega arith in rw w (d .yes e .name))
-      ]
 
   pub labels-down : {r : Bool} → Decides (Follows ls ns k) r → r ≡ false → Decides (LabelsOk n ls ns) false
   labels-down d e = decides-no (λ v. d .no e (record { up = λ j q. (let w : suc j < n = omega arith in rw (← q) (v .up .next j w)) }))

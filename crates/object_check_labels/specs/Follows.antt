@@ -1,10 +1,8 @@
 -- The rules of label rows, apart. Assumes nothing.
 use mathlib.Core.Path.{_≡_}
-use mathlib.Core.Bool.{true}
 use mathlib.Core.List.{List}
 use Prim.Native.Nat.{ℕ, suc, _≤_, _<_}
 use Rattle.rules.specs.Tables.{Before}
-use Rattle.rules.specs.Objects.{goodName}
 use Rattle.rules.specs.Buffers.{nameRow}
 
 -- an address and an external flag that belong together
@@ -16,7 +14,3 @@ pub record Flagged (a f : ℕ) : Type 0 where
 -- the name of row k is above that of the row before
 pub record Follows (ls ns : List ℕ) (k : ℕ) : Type 0 where
   pub up : (j : ℕ) → suc j ≡ k → Before (nameRow ls ns j) (nameRow ls ns k)
-
--- the rows up to k have good names
-pub record Named (ls ns : List ℕ) (k : ℕ) : Type 0 where
-  pub good : (j : ℕ) → j ≤ k → goodName (nameRow ls ns j) ≡ true

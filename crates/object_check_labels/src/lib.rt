@@ -3,7 +3,7 @@ ghost use Prim.Native.Nat.{_+_, _*_, _≤_, _<_};
 ghost use lib.ListN.{length};
 ghost use Rattle.rules.specs.Buffers.{LabelRow, LabelsOk};
 ghost use Rattle.object.specs.Decides.{Decides};
-ghost use Rattle.object_check_labels.specs.Follows.{Flagged, Follows, Named};
+ghost use Rattle.object_check_labels.specs.Follows.{Flagged, Follows};
 use base_capacities::ADDRESSES;
 use base_capacities::DEFINED;
 use base_capacities::EXTERNAL;
@@ -55,9 +55,8 @@ fn check_label(labels: &[u32], names: &[u8], k: usize) -> bool
     false
 }
 
-// The name of row k is above that of the row before, both being good names.
+// The name of row k is above that of the row before.
 fn follows(labels: &[u32], names: &[u8], k: usize) -> bool
-    requires { ⌜ Named (now labels) (now names) k ⌝ }
     ensures { λ r. ⌜ Decides (Follows (now (labels .entry)) (now (names .entry)) k) r ⌝ }
 {
     if k == 0 {
@@ -66,7 +65,7 @@ fn follows(labels: &[u32], names: &[u8], k: usize) -> bool
     let j = k - 1;
     let before = object::label_name(labels, names, j);
     let name = object::label_name(labels, names, k);
-    match base_text::compare_names(before, name) {
+    match base_text::compare_bytes(before, name) {
         Order::Less => true,
         Order::Same => false,
         Order::Greater => false,

@@ -11,19 +11,19 @@ use Rattle.rules.specs.Objects.{Lab, addressOf, Name}
 use Rattle.rules.specs.Buffers.{lay, flagOf, labFrom, nameBytes, labelCells}
 use Rattle.rules.proofs.Rows.{lay-more}
 use Rattle.base_buffers.proofs.Pasted.{Pasted, pasted-none, pasted-more, pasted-all}
-use Rattle.object_layout_labels.specs.Laying.{RowRoom, PutLabel}
+use Rattle.object_layout_labels.specs.Laying.{rowCells, PutLabel}
 
-four : (l : List ℕ) (i a f p q : ℕ) → i + 4 ≤ length l → set (set (set (set l i a) (i + 1) f) (i + 2) p) (i + 3) q ≡ paste l i (a ∷ f ∷ p ∷ q ∷ []) 4
+four : (l : List ℕ) (i a f p q : ℕ) → i + 4 ≤ length l → set (set (set (set l i a) (i + 1) f) (i + 2) p) (i + 3) q ≡ paste l i (rowCells a f p q) 4
 four l i a f p q h =
     let e1 : i + 1 ≡ suc i = omega arith in
     let e2 : i + 2 ≡ suc (suc i) = omega arith in
     let e3 : i + 3 ≡ suc (suc (suc i)) = omega arith in
-    rw (e1, e2, e3) (sets-eq (a ∷ f ∷ p ∷ q ∷ []) l i h)
+    rw (e1, e2, e3) (sets-eq (rowCells a f p q) l i h)
 
-pub put-done : {ls ns ns′ : List ℕ} {k at a f p q : ℕ} {m : List ℕ} → RowRoom ls ns k at m → p ≡ at → q ≡ length m → ns′ ≡ paste ns at m (length m)
-    → PutLabel ls ns (set (set (set (set ls (k * 4) a) (k * 4 + 1) f) (k * 4 + 2) p) (k * 4 + 3) q) ns′ k at a f m (at + length m)
-put-done {ls} {k = k} {at = at} {a = a} {f = f} {m = m} r e d b =
-    record { row = rw (e, d) (four ls (k * 4) a f at (length m) (r .row)); bytes = b; next = refl }
+-- a row of four stores
+pub row-done : (ls : List ℕ) (k at size a f p q : ℕ) → k * 4 + 4 ≤ length ls → p ≡ at → q ≡ size
+    → set (set (set (set ls (k * 4) a) (k * 4 + 1) f) (k * 4 + 2) p) (k * 4 + 3) q ≡ paste ls (k * 4) (rowCells a f at size) 4
+row-done ls k at size a f p q l e d = rw (e, d) (four ls (k * 4) a f at size l)
 
 pub put-at : {ls ns ls′ ns′ : List ℕ} {k at a f a′ f′ r : ℕ} {m : List ℕ} → PutLabel ls ns ls′ ns′ k at a f m r → a ≡ a′ → f ≡ f′ → PutLabel ls ns ls′ ns′ k at a′ f′ m r
 put-at p d e = rw (d, e) at p
@@ -61,12 +61,9 @@ pub upped-all : {d₀ s d : List ℕ} {at i : ℕ} → Upped d₀ at s d i → l
 upped-all {s = s} p l = pasted-all (p .here) (omega (arith, long s))
 
 -- the row, with the length of the name as it stands in the source
-pub upped-done : {ls ns ns′ : List ℕ} {k at a f p q : ℕ} {m : List ℕ} → RowRoom ls ns k at m → p ≡ at → q ≡ length m → ns′ ≡ paste ns at (map upper m) (length (map upper m))
-    → PutLabel ls ns (set (set (set (set ls (k * 4) a) (k * 4 + 1) f) (k * 4 + 2) p) (k * 4 + 3) q) ns′ k at a f (map upper m) (at + length m)
-upped-done {ls} {ns} {ns′} {k} {at} {a} {f} {p} {q} {m} r e d b =
-    let room : RowRoom ls ns k at (map upper m) = record { row = r .row; place = omega (arith, r .place, long m); small = omega (arith, r .small, long m) } in
-    let u = put-done {a = a} {f = f} room e (d ∙ sym (long m)) b in
-    record { row = u .row; bytes = u .bytes; next = omega (arith, long m) }
+pub upped-done : {ls ns ls′ ns′ : List ℕ} {k at a f : ℕ} (m : List ℕ) → ls′ ≡ paste ls (k * 4) (rowCells a f at (length m)) 4 → ns′ ≡ paste ns at (map upper m) (length (map upper m))
+    → PutLabel ls ns ls′ ns′ k at a f (map upper m) (at + length m)
+upped-done m e b = let z = long m in record { row = rw z e; bytes = b; next = omega arith }
 
 -- LAYOUT, a label at a time
 

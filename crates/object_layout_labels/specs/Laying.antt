@@ -19,6 +19,10 @@ pub record RowRoom (ls ns : List ℕ) (k at : ℕ) (m : List ℕ) : Type 0 where
   pub place : at + length m ≤ length ns
   pub small : at + length m ≤ 65536
 
+-- the cells of a row: an address, a flag, where a name begins and how long it is
+abbrev pub rowCells : ℕ → ℕ → ℕ → ℕ → List ℕ
+rowCells a f p n = a ∷ f ∷ p ∷ n ∷ []
+
 -- ls and ns with row k and its name at `at`
 pub record PutLabel (ls ns ls′ ns′ : List ℕ) (k at a f : ℕ) (m : List ℕ) (r : ℕ) : Type 0 where
   pub row : ls′ ≡ paste ls (k * 4) (a ∷ f ∷ at ∷ length m ∷ []) 4

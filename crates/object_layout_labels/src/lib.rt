@@ -1,4 +1,4 @@
-// Labels written in the one layout of an object: rows and names one after another in upper case, zeros behind.
+// Labels written in the one layout of an object: one behind another as it stands, or all rows with their names in upper case, zeros behind.
 ghost use mathlib.Core.Path.{_≡_};
 ghost use mathlib.Core.List.{map};
 ghost use Prim.Native.Nat.{_+_, _*_, _≤_};
@@ -7,12 +7,15 @@ ghost use lib.Seq.{paste};
 ghost use Rattle.rules.specs.Tokens.{upper};
 ghost use Rattle.rules.specs.Buffers.{nameRow};
 ghost use Rattle.object.specs.Slots.{upperName};
-ghost use Rattle.object_layout_labels.specs.Laying.{Blank, RowRoom, PutLabel, Layable, LabelRoom, upperLabels, LaidLabels};
+ghost use Rattle.object_layout_labels.specs.Laying.{Blank, rowCells, RowRoom, PutLabel, Layable, LabelRoom, upperLabels, LaidLabels};
 use base_capacities::LABEL_CELLS;
 use base_capacities::LABEL_FLAG;
 use base_capacities::NAME_LENGTH;
 use base_capacities::NAME_START;
 use base_casts::narrow;
+
+// The address that an external has in its row.
+pub const NO_ADDRESS: u32 = 0;
 
 // All of src in upper case, from index `at` of dst.
 fn put_upper(dst: &mut [u8], at: usize, src: &[u8])
@@ -27,8 +30,38 @@ fn put_upper(dst: &mut [u8], at: usize, src: &[u8])
     }
 }
 
-// The label of row k, whose name goes behind `at` name bytes; the place behind it.
-fn put_label(
+// Row k: an address, a flag, where a name begins and how long it is.
+fn put_row(labels: &mut [u32], k: usize, address: u32, flag: u32, at: usize, size: usize)
+    requires { ⌜ (k * 4 + 4 ≤ length (now labels)) × (at + size ≤ 65536) ⌝ }
+    ensures { λ _. ⌜ now (labels .exit) ≡ paste (now (labels .entry)) (k * 4) (rowCells address flag at size) 4 ⌝ }
+{
+    let i = k * LABEL_CELLS;
+    labels[i] = address;
+    labels[i + LABEL_FLAG] = flag;
+    labels[i + NAME_START] = narrow(at);
+    labels[i + NAME_LENGTH] = narrow(size);
+}
+
+// The label of row k, whose name goes behind `at` name bytes as it stands; the place behind it.
+pub fn put_label(
+    labels: &mut [u32],
+    names: &mut [u8],
+    k: usize,
+    at: usize,
+    address: u32,
+    flag: u32,
+    name: &[u8],
+) -> usize
+    requires { ⌜ RowRoom (now labels) (now names) k at (now name) ⌝ }
+    ensures { λ r. ⌜ PutLabel (now (labels .entry)) (now (names .entry)) (now (labels .exit)) (now (names .exit)) k at address flag (now (name .entry)) r ⌝ }
+{
+    put_row(labels, k, address, flag, at, name.len());
+    base_buffers::put_u8(names, at, name);
+    at + name.len()
+}
+
+// The same with the name in upper case.
+fn put_upper_label(
     labels: &mut [u32],
     names: &mut [u8],
     k: usize,
@@ -40,11 +73,7 @@ fn put_label(
     requires { ⌜ RowRoom (now labels) (now names) k at (now name) ⌝ }
     ensures { λ r. ⌜ PutLabel (now (labels .entry)) (now (names .entry)) (now (labels .exit)) (now (names .exit)) k at address flag (map upper (now (name .entry))) r ⌝ }
 {
-    let i = k * LABEL_CELLS;
-    labels[i] = address;
-    labels[i + LABEL_FLAG] = flag;
-    labels[i + NAME_START] = narrow(at);
-    labels[i + NAME_LENGTH] = narrow(name.len());
+    put_row(labels, k, address, flag, at, name.len());
     put_upper(names, at, name);
     at + name.len()
 }
@@ -62,7 +91,7 @@ fn lay_label(
     ensures { λ r. ⌜ PutLabel (now (labels .entry)) (now (names .entry)) (now (labels .exit)) (now (names .exit)) k at (getD (now (rows .entry)) (k * 4) 0) (getD (now (rows .entry)) (k * 4 + 1) 0) (upperName (now (rows .entry)) (now (bytes .entry)) k) r ⌝ }
 {
     let i = k * LABEL_CELLS;
-    put_label(
+    put_upper_label(
         labels,
         names,
         k,

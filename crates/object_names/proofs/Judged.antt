@@ -26,7 +26,7 @@ use Rattle.lex_token.specs.declared.Next.{Next}
 use Rattle.lex_token.specs.declared.Next.the-variants.{Took, End, Refused}
 use Rattle.object_names.specs.Whole.{isLabel, labelKind, wholeLabel}
 
-no-right : (b : Bool) → (b && false) ≡ false
+pub no-right : (b : Bool) → (b && false) ≡ false
 no-right true = refl
 no-right false = refl
 
@@ -58,6 +58,11 @@ word-judged l w = go (find w instructions)
     go : (o : Option Row) → (elim (asFree w o) [ none ↦ false | some u ↦ same l u ]) ≡ (free o && same l w)
     go none = refl
     go (some r) = refl
+
+-- a word in upper case that is not reserved
+pub word-free : (l : List ℕ) → isLabel (identOf (map upper l)) ≡ true → same l (map upper l) ≡ true → labelWord l (token (word (map upper l))) ≡ true
+unfolding identOf
+word-free l e u = word-judged l (map upper l) ∙ rw (sym (ident-free 0 (map upper l) instructions) ∙ e, u) refl
 
 -- a word from the first byte on
 word-whole : (l w : List ℕ) (n : ℕ) → w ≡ map upper (take n l) → Judged l n (token (word w)) ≡ (wholeLabel l (codedAs (word w) 0 n) && same l (map upper l))

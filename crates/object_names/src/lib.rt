@@ -1,10 +1,11 @@
-// Names of labels: one label token in upper case, at most 64 bytes.
+// Names of labels: one label token in upper case, at most 64 bytes. Most names are told by their bytes; the lexer reads the others.
 ghost use mathlib.Core.Path.{_≡_};
 ghost use mathlib.Core.List.{map};
 ghost use Rattle.rules.specs.Base.{same};
 ghost use Rattle.rules.specs.Tokens.{upper, nextToken};
 ghost use Rattle.rules.specs.Objects.{goodName};
 ghost use Rattle.lex_token.specs.Coded.{coded};
+ghost use Rattle.object_names.specs.Plain.{capital, beginning, allCapital, plain};
 ghost use Rattle.object_names.specs.Whole.{isLabel, labelKind, wholeLabel};
 use lex_reserved::Ident;
 use lex_token::Next;
@@ -66,12 +67,59 @@ fn is_upper(name: &[u8]) -> bool
     true
 }
 
+// A capital letter, a digit or the underscore.
+fn is_capital(b: u8) -> bool
+    ensures { λ r. ⌜ r ≡ capital b ⌝ }
+{
+    ((b'A' <= b) & (b <= b'Z')) | ((b'0' <= b) & (b <= b'9')) | (b == b'_')
+}
+
+// A byte that begins a word in upper case and nothing else: R may begin a register, X a number.
+fn begins_word(b: u8) -> bool
+    ensures { λ r. ⌜ r ≡ beginning b ⌝ }
+{
+    (((b'A' <= b) & (b <= b'Z')) | (b == b'_')) & !(b == b'R') & !(b == b'X')
+}
+
+fn all_capital(name: &[u8]) -> bool
+    ensures { λ r. ⌜ r ≡ allCapital (now (name .entry)) ⌝ }
+{
+    let mut i = 0;
+    while i < name.len() {
+        if is_capital(name[i]) {
+            i += 1;
+        } else {
+            return false;
+        }
+    }
+    true
+}
+
+// A name that its bytes show to be a label: a word in upper case that is not reserved.
+fn is_plain(name: &[u8]) -> bool
+    ensures { λ r. ⌜ r ≡ plain (now (name .entry)) ⌝ }
+{
+    if name.len() == 0 {
+        return false;
+    }
+    if begins_word(name[0]) {
+        if all_capital(name) {
+            return is_free(lex_reserved::ident_of(name));
+        }
+        return false;
+    }
+    false
+}
+
 // The bytes are a good name.
 pub fn is_label(name: &[u8]) -> bool
     ensures { λ r. ⌜ r ≡ goodName (now (name .entry)) ⌝ }
 {
     if base_capacities::NAME_BYTES < name.len() {
         return false;
+    }
+    if is_plain(name) {
+        return true;
     }
     whole_label(name) & is_upper(name)
 }

@@ -1,18 +1,18 @@
 -- What the loop that lays relocations keeps. Assumes nothing.
 use mathlib.Core.Path.{_≡_, refl, sym, _∙_, ap}
 use mathlib.Core.List.{List, [], _∷_, _++_}
-use Prim.Native.Nat.{ℕ, zero, suc, _+_, _*_, _≤_, _<_}
+use Prim.Native.Nat.{ℕ, _+_, _*_, _≤_, _<_}
 use native.Mathlib.Omega.{arith}
-use lib.ListN.{length, getD, set, length-set, length-replicate}
-use lib.Seq.{paste, sets-eq}
+use lib.ListN.{length, getD, length-set, length-replicate}
 use Rattle.rules.specs.Tables.{Table, look, nameOrder}
 use Rattle.rules.specs.Objects.{Lab, Name}
 use Rattle.rules.specs.Buffers.{tab, zeros, lay, rowOf, relocCells}
-use Rattle.rules.proofs.Rows.{tab-more, length-tab, lay-nil, lay-more, sorted-tab}
+use Rattle.rules.proofs.Rows.{tab-more, length-tab, lay-nil, sorted-tab}
 use Rattle.rules.proofs.Plain.{row-index, relocs-more}
 use Rattle.rules.proofs.Fits.{length-relocCells}
 use Rattle.object.specs.Slots.{upperRow}
 use Rattle.base_buffers.specs.Rows.{withRow}
+use Rattle.base_buffers.proofs.Pasted.{row-laid}
 use Rattle.object_layout_labels.specs.Laying.{Blank, upperLabels}
 use Rattle.pass1_symbols.specs.Symbols.{symbolRow, symbols, Growing}
 use Rattle.pass1_symbols.specs.Adding.{found, Found}
@@ -47,9 +47,6 @@ name-in {k = k} v l = v .table .rows k l .place
 
 -- THE LOOP
 
-two : (l : List ℕ) (i a b : ℕ) → i + 2 ≤ length l → set (set l i a) (i + 1) b ≡ paste l i (a ∷ b ∷ []) 2
-two l i a b h = let e : i + 1 ≡ suc i = omega arith in rw e (sets-eq (a ∷ b ∷ []) l i h)
-
 pub record Writing (rs src ss : List ℕ) (n m : ℕ) (out₀ out : List ℕ) (k : ℕ) : Type 0 where
   pub within : k ≤ n
   pub room : n * 2 ≤ length out₀
@@ -76,11 +73,8 @@ module _ {rs src ss : List ℕ} {n m : ℕ} {out₀ out : List ℕ} {k : ℕ} (w
         room = w .room;
         size = ap length e ∙ simp (length-set) (w .size);
         here = e
-            ∙ (two out (k * 2) a b (omega (arith, w .room, w .size))
-            ∙ (ap (λ (x : List ℕ). paste x (k * 2) (a ∷ b ∷ []) 2) (w .here)
-            ∙ (ap (λ (x : ℕ). paste (lay (relocCells (labelsOf m ss src) (tab k (noteRow rs src))) (length out₀)) x (a ∷ b ∷ []) 2) (sym c)
-            ∙ (lay-more (relocCells (labelsOf m ss src) (tab k (noteRow rs src))) (a ∷ b ∷ []) (length out₀) (omega (arith, w .room, c))
-            ∙ ap (λ (x : List ℕ). lay x (length out₀)) f))));
+            ∙ (ap (λ (x : List ℕ). withRow x k a b) (w .here)
+            ∙ (row-laid (relocCells (labelsOf m ss src) (tab k (noteRow rs src))) (length out₀) k a b c (omega (arith, w .room)) ∙ ap (λ (x : List ℕ). lay x (length out₀)) f));
       }
 
 pub writing-all : {rs src ss : List ℕ} {n m : ℕ} {out₀ out : List ℕ} {k : ℕ} → Writing rs src ss n m out₀ out k → n ≤ k → out ≡ lay (relocCells (labelsOf m ss src) (notes n rs src)) (length out₀)

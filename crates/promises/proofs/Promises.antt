@@ -6,7 +6,7 @@ use mathlib.Core.List.{List, [], _∷_, map, List·Memᴰ, List·Permᴰ}
 use mathlib.Core.Logic.{_↔_}
 use mathlib.Core.Option.{none, some}
 use mathlib.Core.Path.{_≡_, sym, _∙_}
-use lib.ListN.{length, getD}
+use lib.ListN.{length, getD, take}
 use Rattle.rules.specs.Tokens.{Match, tokenAt, tokenIn, upper, nextToken, lexed}
 use Rattle.rules.specs.Tokens as Kinds
 use Rattle.rules.specs.Patterns.{patterns, LongestMatch}
@@ -43,9 +43,10 @@ use Rattle.lex.proofs.LabelLaws as Labels
 use Rattle.lex_source.specs.Lexed.{meantLexed}
 use Rattle.lex_source.specs.declared.Lexed.{Lexed}
 use Rattle.lex_source.proofs.OneAnswer as Lexer
-use Rattle.list.specs.Call as Call
 use Rattle.list.specs.Call.{Called}
-use Rattle.list.specs.declared.Listed.{Listed}
+use Rattle.object_answer.specs.Writes as Writing
+use Rattle.object_answer.specs.declared.Written.{Written}
+use Rattle.object_answer.specs.declared.Written.the-variants.{Bytes}
 use Rattle.rules.proofs.Fields as Fields
 use Rattle.rules.proofs.Disassembly as Disassembly
 use Rattle.rules.proofs.Laid as Laid
@@ -67,7 +68,6 @@ use Rattle.laws_stored.proofs.Most as StoredMost
 use Rattle.laws_stored.proofs.Reached as StoredReached
 use Rattle.laws_stored.proofs.Checking as StoredSteps
 use Rattle.stored.specs.Call as StoreCall
-use Rattle.stored.specs.declared.Stored as Storing
 use Rattle.laws_link.proofs.Demand as Demand
 use Rattle.laws_link.proofs.Obtaining as Obtaining
 use Rattle.link.specs.Call.{Outcomes, Linked}
@@ -97,6 +97,12 @@ use Rattle.object_lookup.specs.declared.Found.{Found}
 use Rattle.object_lookup.proofs.Once as Lookup
 use Rattle.rules.specs.Answers.{numbers, answer}
 use Rattle.object_answer.specs.Meant.{AcceptedCall}
+use Rattle.object_answer.specs.Meant.{meant as meantAnswer}
+use Rattle.object_answer.proofs.Leaving as Leaving
+use Rattle.stored_load.specs.Call as LoadCall
+use Rattle.stored_load.specs.Call.{Loaded}
+use Rattle.stored_load.proofs.Accepting as Loading
+use Rattle.stored_load.proofs.Back as LoadingBack
 use Rattle.asm.specs.Call.{called, Assembled}
 use Rattle.lc3_answers.specs.Told as Told
 use Rattle.lc3.specs.Calls as Calls
@@ -214,11 +220,11 @@ pub rev-lookup-label-one-answer : (c : Counts) (b : Buffers) (a : ℕ) (r s : Fo
 rev-lookup-label-one-answer = Lookup.found-once
 
 -- THE CODE OF THE LISTING, crate `list`. Two answers that the contract of `list` allows are equal, and so are the buffers afterwards.
-pub list-one-answer : (c : Counts) (b : Buffers) (len : ℕ) (r s : Listed) (x y : List ℕ) → Called c b len r x → Called c b len s y → r ≡ s
-list-one-answer c b len r s x y = Call.one-answer
+pub list-one-answer : (c : Counts) (b : Buffers) (len : ℕ) (r s : Written) (x y : List ℕ) → Called c b len r x → Called c b len s y → r ≡ s
+list-one-answer c b len r s x y = Writing.one-answer
 
-pub list-one-buffer : (c : Counts) (b : Buffers) (len : ℕ) (r s : Listed) (x y : List ℕ) → Called c b len r x → Called c b len s y → x ≡ y
-list-one-buffer c b len r s x y = Call.one-buffer
+pub list-one-buffer : (c : Counts) (b : Buffers) (len : ℕ) (r s : Written) (x y : List ℕ) → Called c b len r x → Called c b len s y → x ≡ y
+list-one-buffer c b len r s x y = Writing.one-buffer
 
 -- THE CODE OF WORDS, crates `isa` and `isa_fields`: an instruction's meaning is the rule's of the same name, and the contracts are the equations below.
 -- `encode`, then `try_disassemble_line`: the instruction, up to the names that share a word; and the other way round the word.
@@ -376,7 +382,7 @@ calls-leave-equal-buffers = Carrying.carried-equal
 pub every-way-can-be-carried-out : (t : Way) → EntriesLent t → Lendable t → (x : Ends) × CarriedOut t x
 every-way-can-be-carried-out = Carrying.can-carry
 
--- THE STORED FORM, of the rule (`Stored`), and `stored::store` (checking and loading as calls are to come). Checking what was stored gives the object back.
+-- THE STORED FORM, of the rule (`Stored`), and as calls: `stored::store`, `stored_check::check`, `stored_load::load`. Checking what was stored gives the object back.
 pub stored-checks : (o : Object) → Good o → check (stored o) ≡ ok o
 stored-checks = StoredForm.stored-checks
 
@@ -410,14 +416,32 @@ pub some-object-takes-them : (o : Object) × Good o × (length (stored o) ≡ mo
 some-object-takes-them = StoredReached.most-taken
 
 -- `stored::store`: two answers that the contract allows are equal, and so is the buffer of bytes.
-pub store-one-answer : (c : Counts) (b : Buffers) (len : ℕ) (r s : Storing.Stored) (x y : List ℕ) → StoreCall.Called c b len r x → StoreCall.Called c b len s y → r ≡ s
-store-one-answer c b len r s x y = StoreCall.one-answer
+pub store-one-answer : (c : Counts) (b : Buffers) (len : ℕ) (r s : Written) (x y : List ℕ) → StoreCall.Called c b len r x → StoreCall.Called c b len s y → r ≡ s
+store-one-answer c b len r s x y = Writing.one-answer
 
-pub store-one-buffer : (c : Counts) (b : Buffers) (len : ℕ) (r s : Storing.Stored) (x y : List ℕ) → StoreCall.Called c b len r x → StoreCall.Called c b len s y → x ≡ y
-store-one-buffer c b len r s x y = StoreCall.one-buffer
+pub store-one-buffer : (c : Counts) (b : Buffers) (len : ℕ) (r s : Written) (x y : List ℕ) → StoreCall.Called c b len r x → StoreCall.Called c b len s y → x ≡ y
+store-one-buffer c b len r s x y = Writing.one-buffer
+
+-- `stored_check::check`: two answers that the contract allows are equal.
+pub check-one-answer : (b : List ℕ) (r s : Making.Answer) → meantAnswer r ≡ answer (check b) → meantAnswer s ≡ answer (check b) → r ≡ s
+check-one-answer b r s p q = Leaving.meant-once r s (p ∙ sym q)
+
+-- `stored_load::load`: the same, and the six buffers too.
+pub load-one-answer : (out : Buffers) (b : List ℕ) (r s : Making.Answer) (x y : Buffers) → Loaded out b r x → Loaded out b s y → (r ≡ s) × (x ≡ y)
+load-one-answer = Loading.loaded-once
+
+-- What an accepted load leaves: the good object that was stored, in its one layout, valid, with its counts.
+pub load-accepts : (out : Buffers) (b : List ℕ) (r : Making.Answer) (x : Buffers) (o : Object) → AreBytes b → Loaded out b r x → LoadCall.called out b ≡ ok o → AcceptedCall out r x o
+load-accepts = Loading.accepted-call
+
+-- What `store` has written, lent to `load` with buffers that are long enough, is accepted: the object that was stored, in its one layout, with its counts.
+pub stored-object-loads :
+    (c : Counts) (b : Buffers) (len n : ℕ) (x : List ℕ) (out : Buffers) (r : Making.Answer) (y : Buffers) → StoreCall.Called c b len (Bytes n) x → ((i : ℕ) → getD (b .words) i 0 < 65536)
+    → short out ≡ false → c .words ≤ lentWords (out .words) (out .marks) → Loaded out (take n x) r y → AcceptedCall out r y (view c b)
+stored-object-loads = LoadingBack.stored-loads
 
 -- THE CALLS FROM OTHER LANGUAGES, crate `lc3`. Two answers of nine numbers that a contract allows are equal: `lc3_next_token`; `lc3_first_refusal`; `lc3_disassemble`;
--- `lc3_assemble`, and the six buffers too; `lc3_link`, and the six buffers too; `lc3_list`, and its buffer of text too; `lc3_lookup_label`; `lc3_rev_lookup_label`.
+-- `lc3_assemble`, and the six buffers too; `lc3_link`, and the six buffers too; `lc3_list` and `lc3_store`, and the buffer of bytes too; `lc3_check`; `lc3_load`, and the six buffers too; `lc3_lookup_label`; `lc3_rev_lookup_label`.
 pub lc3-next-token-one-answer :
     (s : List ℕ) (at : ℕ) (x y : List ℕ) → x ≡ numbers (Told.nextTold (coded (nextToken s at))) → y ≡ numbers (Told.nextTold (coded (nextToken s at))) → x ≡ y
 lc3-next-token-one-answer s at x y p q = p ∙ sym q
@@ -442,10 +466,25 @@ pub lc3-link-one-object : (c : Counts) (b : Buffers) (d : Counts) (e out p q : B
 lc3-link-one-object c b d e out p q x y = Calls.link-object-once
 
 pub lc3-list-one-answer : (c : Counts) (b : Buffers) (len : ℕ) (t u x y : List ℕ) → ListCall c b len t x → ListCall c b len u y → x ≡ y
-lc3-list-one-answer c b len t u x y = Calls.list-call-once
+lc3-list-one-answer c b len t u x y = Calls.write-call-once
 
 pub lc3-list-one-buffer : (c : Counts) (b : Buffers) (len : ℕ) (t u x y : List ℕ) → ListCall c b len t x → ListCall c b len u y → t ≡ u
-lc3-list-one-buffer c b len t u x y = Calls.list-text-once
+lc3-list-one-buffer c b len t u x y = Calls.write-text-once
+
+pub lc3-store-one-answer : (c : Counts) (b : Buffers) (len : ℕ) (t u x y : List ℕ) → Calls.StoreCall c b len t x → Calls.StoreCall c b len u y → x ≡ y
+lc3-store-one-answer c b len t u x y = Calls.write-call-once
+
+pub lc3-store-one-buffer : (c : Counts) (b : Buffers) (len : ℕ) (t u x y : List ℕ) → Calls.StoreCall c b len t x → Calls.StoreCall c b len u y → t ≡ u
+lc3-store-one-buffer c b len t u x y = Calls.write-text-once
+
+pub lc3-check-one-answer : (b x y : List ℕ) → x ≡ numbers (answer (check b)) → y ≡ numbers (answer (check b)) → x ≡ y
+lc3-check-one-answer b x y p q = p ∙ sym q
+
+pub lc3-load-one-answer : (out : Buffers) (b x y : List ℕ) → x ≡ numbers (answer (LoadCall.called out b)) → y ≡ numbers (answer (LoadCall.called out b)) → x ≡ y
+lc3-load-one-answer out b x y p q = p ∙ sym q
+
+pub lc3-load-one-object : (out : Buffers) (b : List ℕ) (x y : Buffers) → x ≡ leftObject (LoadCall.called out b) out → y ≡ leftObject (LoadCall.called out b) out → x ≡ y
+lc3-load-one-object out b x y p q = p ∙ sym q
 
 pub lc3-lookup-label-one-answer : (c : Counts) (b : Buffers) (m x y : List ℕ) → LookupCall c b m x → LookupCall c b m y → x ≡ y
 lc3-lookup-label-one-answer c b m x y = Calls.lookup-call-once

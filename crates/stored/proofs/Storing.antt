@@ -1,4 +1,4 @@
--- The parts of a stored object one behind another, and the call's answers. Assumes nothing.
+-- The parts of a stored object one behind another, and what the buffer holds then. Assumes nothing.
 use Prim.Native.Nat.{ℕ, _+_, _≤_, _<_}
 use mathlib.Core.Path.{_≡_, refl, sym, _∙_, ap}
 use mathlib.Core.Bool.{true, false}
@@ -7,27 +7,20 @@ use native.Mathlib.Nat.{zero-add}
 use native.Mathlib.Omega.{arith}
 use borrow.Author.Tests.{le-leb, lt-leb}
 use lib.Dec.{leb}
-use lib.ListN.{length, length-append, length-replicate}
-use Rattle.rules.specs.Base.{ok, refuse, nowhere}
-use Rattle.rules.specs.Objects.{Object, Counts}
+use lib.ListN.{length, length-append}
+use Rattle.rules.specs.Objects.{Counts}
 use Rattle.rules.specs.Buffers.{Buffers, Valid, view, zeros}
 use Rattle.rules.specs.Stored.{fin, spell, blockItems, labelItems, relocItems, stored, store}
-use Rattle.rules.specs.Calls.{OfObject}
 use Rattle.rules.proofs.Rows.{lay-nil}
 use Rattle.laws_stored.proofs.Framed.{spell-append}
-use Rattle.object_check.proofs.Whole.{checked-valid, goes-on, refuses-short, refuses-bad}
-use Rattle.object_check.specs.Checked.{outcome}
-use Rattle.object_check.specs.declared.Checked.{Checked}
-use Rattle.object_check.specs.declared.Checked.the-variants as checked
 use Rattle.list_lines.specs.Appended.{Appended}
 use Rattle.list_lines.proofs.Appending.{appended-more, appended-laid}
 use Rattle.stored_fields.specs.Fields.{fieldOf}
 use Rattle.stored_fields.proofs.Fields.{length-fin}
 use Rattle.stored_write_blocks.specs.Blocks.{blocksBytes, BlocksSized}
 use Rattle.stored_write_labels.specs.Tables.{labelBytes, relocBytes, FieldsSized}
-use Rattle.stored.specs.declared.Stored.{Stored}
-use Rattle.stored.specs.declared.Stored.the-variants.{Bytes, Refused}
-use Rattle.stored.specs.Call.{Whole, Called}
+use Rattle.object_answer.specs.Writes.{Whole}
+use Rattle.object_answer.specs.declared.Written.the-variants.{Bytes, Refused}
 
 module _ (c : Counts) (b : Buffers) where
   abbrev pub blocksOf : List ℕ
@@ -90,20 +83,3 @@ module _ (c : Counts) (b : Buffers) where
         let w : Appended out g 0 j (stored (view c b)) = rw four-parts (appended-more (appended-more (appended-more p q) r) u) in
         let y : j ≡ length (stored (view c b)) = w .stop ∙ zero-add (length (stored (view c b))) in
         rw t (record { answer = ap Bytes y; buffer = appended-laid out g j (length out) (stored (view c b)) z w })
-
--- THE CALL
-module _ (c : Counts) (b : Buffers) (k : Checked) (l : OfObject c b (ok (tt {0})) (outcome k)) where
-  pub is-valid : k ≡ checked.Object → Valid c b
-  is-valid e = checked-valid k l e
-
-  pub called-object : (len : ℕ) (z : List ℕ) (r : Stored) (out : List ℕ) → k ≡ checked.Object → z ≡ zeros len → Whole (store (length z) (view c b)) (length z) r out → Called c b len r out
-  called-object len z r out e q h =
-      let n : length z ≡ len = ap length q ∙ length-replicate len 0 in
-      let w : Whole (store len (view c b)) len r out = rw n at h in
-      record { outcome = store len (view c b); lent = goes-on k l e refl; whole = w }
-
-  pub called-short : (len : ℕ) (out : List ℕ) → k ≡ checked.ShortBuffer → out ≡ zeros len → Called c b len (Refused 42) out
-  called-short len out e z = record { outcome = refuse 42 nowhere; lent = refuses-short k l e refl; whole = record { answer = refl; buffer = z ∙ sym (lay-nil len) } }
-
-  pub called-bad : (len : ℕ) (out : List ℕ) → k ≡ checked.BadObject → out ≡ zeros len → Called c b len (Refused 43) out
-  called-bad len out e z = record { outcome = refuse 43 nowhere; lent = refuses-bad k l e refl; whole = record { answer = refl; buffer = z ∙ sym (lay-nil len) } }

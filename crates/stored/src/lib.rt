@@ -3,6 +3,7 @@ use base_refusals::BAD_OBJECT;
 use base_refusals::NO_WRITE_ROOM;
 use base_refusals::SHORT_BUFFER;
 use object::Counts;
+use object_answer::Written;
 use object_check::Checked;
 use stored_fields::HEAD_BYTES;
 ghost use mathlib.Core.Path.{_≡_};
@@ -10,13 +11,7 @@ ghost use lib.ListN.{length};
 ghost use Rattle.rules.specs.Buffers.{six, Valid, view, zeros};
 ghost use Rattle.rules.specs.Stored.{stored};
 ghost use Rattle.object.specs.Meaning.{counts};
-ghost use Rattle.stored.specs.Call.{Written, Called};
-
-// How many bytes the stored object has, or the number of the refusal: 42, 43 or 51. None of these has a place.
-pub enum Stored {
-    Bytes(usize),
-    Refused(u16),
-}
+ghost use Rattle.stored.specs.Call.{WrittenOf, Called};
 
 // How many bytes a valid object has when it is stored.
 fn stored_size(
@@ -51,14 +46,14 @@ fn store_object(
     relocations: &[u32],
     names: &[u8],
     bytes: &mut [u8],
-) -> Stored
+) -> Written
     requires { ⌜ Valid (counts c) (six (now blocks) (now words) (now marks) (now labels) (now relocations) (now names)) ⌝ }
     requires { ⌜ now bytes ≡ zeros (length (now bytes)) ⌝ }
-    ensures { λ r. ⌜ Written (view (counts c) (six (now (blocks .entry)) (now (words .entry)) (now (marks .entry)) (now (labels .entry)) (now (relocations .entry)) (now (names .entry)))) (length (now (bytes .entry))) r (now (bytes .exit)) ⌝ }
+    ensures { λ r. ⌜ WrittenOf (view (counts c) (six (now (blocks .entry)) (now (words .entry)) (now (marks .entry)) (now (labels .entry)) (now (relocations .entry)) (now (names .entry)))) (length (now (bytes .entry))) r (now (bytes .exit)) ⌝ }
 {
     let size = stored_size(c, blocks, words, marks, labels, relocations, names);
     if bytes.len() < size {
-        return Stored::Refused(NO_WRITE_ROOM);
+        return Written::Refused(NO_WRITE_ROOM);
     }
     let b = c.blocks;
     let w = c.words;
@@ -68,7 +63,7 @@ fn store_object(
     let second = stored_write_labels::put_labels(bytes, first, labels, names, l);
     let third = stored_write_labels::put_relocations(bytes, second, relocations, labels, names, n);
     let end = stored_fields::put_end(bytes, third);
-    Stored::Bytes(end)
+    Written::Bytes(end)
 }
 
 // A lent object into lent bytes.
@@ -81,13 +76,13 @@ pub fn store(
     relocations: &[u32],
     names: &[u8],
     bytes: &mut [u8],
-) -> Stored
+) -> Written
     ensures { λ r. ⌜ Called (counts c) (six (now (blocks .entry)) (now (words .entry)) (now (marks .entry)) (now (labels .entry)) (now (relocations .entry)) (now (names .entry))) (length (now (bytes .entry))) r (now (bytes .exit)) ⌝ }
 {
     base_buffers::zero_u8(bytes);
     match object_check::check_object(c, blocks, words, marks, labels, relocations, names) {
         Checked::Object => store_object(c, blocks, words, marks, labels, relocations, names, bytes),
-        Checked::ShortBuffer => Stored::Refused(SHORT_BUFFER),
-        Checked::BadObject => Stored::Refused(BAD_OBJECT),
+        Checked::ShortBuffer => Written::Refused(SHORT_BUFFER),
+        Checked::BadObject => Written::Refused(BAD_OBJECT),
     }
 }

@@ -1,26 +1,45 @@
 -- The first run of words beside their marks, and what is behind it. Assumes nothing.
-use Prim.Native.Nat.{ℕ, zero, suc, _+_, _≤_, _<_}
+use Prim.Native.Nat.{ℕ, zero, suc, _+_, _-_, _≤_, _<_}
 use mathlib.Core.Path.{_≡_, refl, sym, _∙_, ap}
-use mathlib.Core.Bool.{Bool, true, false}
+use mathlib.Core.Bool.{Bool, true, false, _&&_}
 use mathlib.Core.List.{List, [], _∷_, _++_}
+use native.Mathlib.Nat.{not-suc-le-zero}
 use native.Mathlib.Decide.{decLt}
 use native.Mathlib.Numerals.{add-one}
 use native.Mathlib.Omega.{arith}
-use borrow.Author.Tests.{eq-eqb, ne-eqb}
+use borrow.Author.Count.{below-more}
+use borrow.Author.Tests.{eq-eqb, ne-eqb, eqb-true, eqb-false}
 use lib.Dec.{eqb}
 use lib.ListN.{length, take, drop, getD, length-take, length-drop, drop-of-length-le}
-use lib.Seq.{drop-cons, length-take-le, getD-drop, take-all}
+use lib.Seq.{drop-cons, length-take-le, getD-take, getD-drop, take-all}
 use Rattle.rules.specs.Objects.{Cell, unset, word}
 use Rattle.rules.specs.Stored.{Run, sets, gap, run, runRoom, spell, runItems, runsOf, wordsThen, unsetThen}
 use Rattle.laws_stored.proofs.Cut.{room-is, NoneSet, NoneUnset, runs-none, runs-gap, runs-set, runs-full}
+use Rattle.object.specs.Decides.{Decides, decides-yes, decides-no}
 use Rattle.stored_fields.specs.Fields.{fieldOf}
-use Rattle.stored_write_blocks.specs.Runs.{alike, runAhead, cellsOf, runField, runBytes, Marked}
+use Rattle.stored_write_blocks.specs.Runs.{Alike, alike, Passed, runAhead, cellsOf, runField, runBytes, Marked}
 
 -- MARKS ALIKE
 
-pub record Passed (m : ℕ) (ms : List ℕ) (i : ℕ) : Type 0 where
-  pub rest : alike m ms ≡ i + alike m (drop i ms)
+-- all of a few marks
+pub record AlikeTo (m : ℕ) (ms : List ℕ) (alike : Bool) (i : ℕ) : Type 0 where
   pub within : i ≤ length ms
+  pub first : Decides (Alike m ms i) alike
+
+module _ (m : ℕ) (ms : List ℕ) where
+  pub alike-start : AlikeTo m ms true 0
+  alike-start = record { within = omega arith; first = decides-yes (λ j h. absurd (not-suc-le-zero h)) }
+
+  one-more : (i : ℕ) (a b : Bool) → Decides (Alike m ms i) a → eqb (getD ms i 0) m ≡ b → Decides (Alike m ms (i + 1)) (a && b)
+  one-more i true true d e = decides-yes (below-more _ _ (d .yes refl) (eqb-true (getD ms i 0) m e))
+  one-more i true false d e = decides-no (λ v. eqb-false (getD ms i 0) m e (v i (omega arith)))
+  one-more i false b d e = decides-no (λ v. d .no refl (λ j h. v j (omega arith)))
+
+  pub alike-next : {i : ℕ} {a : Bool} → AlikeTo m ms a i → i < length ms → AlikeTo m ms (a && eqb (getD ms i 0) m) (i + 1)
+  alike-next {i} {a} t h = record { within = omega arith; first = one-more i a (eqb (getD ms i 0) m) (t .first) refl }
+
+  pub alike-end : {i : ℕ} {a : Bool} → AlikeTo m ms a i → length ms ≤ i → Decides (Alike m ms (length ms)) a
+  alike-end {i} t h = let e : i ≡ length ms = omega (arith, t .within) in rw e at (t .first)
 
 module _ (m : ℕ) (ms : List ℕ) where
   pub passed-none : Passed m ms 0
@@ -42,6 +61,21 @@ module _ (m : ℕ) (ms : List ℕ) where
     pub passed-all : length ms ≤ i → i ≡ alike m ms
     unfolding alike
     passed-all l = let d : alike m (drop i ms) ≡ 0 = rw (drop-of-length-le ms l) refl in omega (arith, p .rest)
+
+-- a step of many marks
+passed-steps : (m : ℕ) (ms : List ℕ) (i k : ℕ) → Passed m ms i → i + k ≤ length ms → ((j : ℕ) → j < k → getD ms (i + j) 0 ≡ m) → Passed m ms (i + k)
+passed-steps m ms i zero p l h = let e : i + 0 ≡ i = omega arith in rw e p
+passed-steps m ms i (suc k) p l h =
+    let e : i + suc k ≡ (i + k) + 1 = omega arith in
+    rw e (passed-more m ms (i + k) (passed-steps m ms i k p (omega arith) (λ j q. h j (omega arith))) (omega arith) (h k (omega arith)))
+
+pub passed-step : (m : ℕ) (ms : List ℕ) (i : ℕ) {x : List ℕ} {r : Bool} → Passed m ms i → 64 ≤ length ms - i → x ≡ take ((i + 64) - i) (drop i ms) → Decides (Alike m x (length x)) r → r ≡ true
+    → Passed m ms (i + 64)
+passed-step m ms i p l e d y =
+    let n : (i + 64) - i ≡ 64 = omega arith in
+    let f = rw (e, n) at (d .yes y) in
+    let s : length (take 64 (drop i ms)) ≡ 64 = length-take-le 64 (drop i ms) (omega (arith, length-drop i ms)) in
+    passed-steps m ms i 64 p (omega (arith, p .within)) (λ j q. sym (getD-take 64 (drop i ms) j 0 q ∙ getD-drop i ms j 0) ∙ f j (omega arith))
 
 alike-none : (m x : ℕ) (ms : List ℕ) → (x ≡ m → ⊥) → alike m (x ∷ ms) ≡ 0
 unfolding alike

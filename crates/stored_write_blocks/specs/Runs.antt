@@ -1,10 +1,10 @@
 -- The runs of words beside their marks, and the bytes of their fields. Assumes nothing.
-use Prim.Native.Nat.{ℕ, zero, suc, _*_, _≤_, _<_}
+use Prim.Native.Nat.{ℕ, zero, suc, _+_, _*_, _≤_, _<_}
 use mathlib.Core.Path.{_≡_}
 use mathlib.Core.Bool.{true, false}
 use mathlib.Core.List.{List, [], _∷_}
 use lib.Dec.{eqb}
-use lib.ListN.{length, getD, take}
+use lib.ListN.{length, getD, take, drop}
 use Rattle.rules.specs.Objects.{Cell}
 use Rattle.rules.specs.Buffers.{tab, cellRow}
 use Rattle.rules.specs.Stored.{sets, gap, run, runRoom, spell, runItems, runsOf}
@@ -14,6 +14,14 @@ use Rattle.stored_fields.specs.Fields.{fieldOf}
 unfoldable pub alike : ℕ → List ℕ → ℕ
 alike m [] = 0
 alike m (x ∷ ms) = elim (eqb x m) [ true ↦ suc (alike m ms) | false ↦ 0 ]
+
+-- the first i marks are m: so many, and those that follow
+pub record Passed (m : ℕ) (ms : List ℕ) (i : ℕ) : Type 0 where
+  pub rest : alike m ms ≡ i + alike m (drop i ms)
+  pub within : i ≤ length ms
+
+abbrev pub Alike : ℕ → List ℕ → ℕ → Type 0
+Alike m ms i = (j : ℕ) → j < i → getD ms j 0 ≡ m
 
 -- how many words the first run has: those with the mark of the first, set ones up to 16,384
 unfoldable pub runAhead : List ℕ → ℕ

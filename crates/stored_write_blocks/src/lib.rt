@@ -11,15 +11,33 @@ ghost use mathlib.Core.Path.{_≡_};
 ghost use Prim.Native.Nat.{_+_, _*_, _≤_, _<_};
 ghost use lib.ListN.{length};
 ghost use Rattle.rules.specs.Buffers.{BlocksOk, WordsOk};
+ghost use Rattle.object.specs.Decides.{Decides};
 ghost use Rattle.list_lines.specs.Appended.{Appended};
-ghost use Rattle.stored_write_blocks.specs.Runs.{alike, runAhead, runField, runBytes, Marked, CellsReady, RunFits, RunSized, RunsSized};
+ghost use Rattle.stored_write_blocks.specs.Runs.{Alike, alike, Passed, runAhead, runField, runBytes, Marked, CellsReady, RunFits, RunSized, RunsSized};
 ghost use Rattle.stored_write_blocks.specs.Blocks.{blockBytes, blocksBytes, MarksOk, BlocksSized};
 
-// How many marks at the front are `mark`.
-fn alike_ahead(marks: &[u8], mark: u8) -> usize
+// How many marks are looked at in one step.
+const STEP: usize = 64;
+
+// Every mark is `mark`. The loop has no exit, so that many are looked at at once.
+fn all_alike(marks: &[u8], mark: u8) -> bool
+    ensures { λ r. ⌜ Decides (Alike mark (now (marks .entry)) (length (now (marks .entry)))) r ⌝ }
+{
+    let mut alike = true;
+    let mut i = 0;
+    while i < marks.len() {
+        alike = alike & (marks[i] == mark);
+        i += 1;
+    }
+    alike
+}
+
+// How many marks at the front are `mark`, of which the first `at` are passed.
+fn alike_from(marks: &[u8], mark: u8, at: usize) -> usize
+    requires { ⌜ Passed mark (now marks) at ⌝ }
     ensures { λ r. ⌜ r ≡ alike mark (now (marks .entry)) ⌝ }
 {
-    let mut i = 0;
+    let mut i = at;
     while i < marks.len() {
         if marks[i] == mark {
             i += 1;
@@ -28,6 +46,22 @@ fn alike_ahead(marks: &[u8], mark: u8) -> usize
         }
     }
     i
+}
+
+// How many marks at the front are `mark`.
+fn alike_ahead(marks: &[u8], mark: u8) -> usize
+    ensures { λ r. ⌜ r ≡ alike mark (now (marks .entry)) ⌝ }
+{
+    let mut i = 0;
+    while STEP <= marks.len() - i {
+        let stop = i + STEP;
+        if all_alike(&marks[i..stop], mark) {
+            i = stop;
+        } else {
+            return alike_from(marks, mark, i);
+        }
+    }
+    alike_from(marks, mark, i)
 }
 
 // How many words the first run has.

@@ -3,19 +3,16 @@
 use libc::STDOUT_FILENO;
 use object::Counts;
 use object_answer::Answer;
+use object_answer::Written;
 
-// How many words an example that is linked may have.
-const WORDS: usize = 16;
+// How many words an example may have, and how many bytes its listing.
+const WORDS: usize = 1024;
+
+const TEXT: usize = 1024;
 
 const P2: [u8; 61] = *b".external F\n.orig x3000\nLD R1, P\nJSRR R1\nHALT\nP .fill F\n.end\n";
 
 const P3: [u8; 38] = *b".orig x4000\nF ADD R0, R0, #1\nRET\n.end\n";
-
-// An example's name, then its listing.
-fn show(name: &[u8], src: &[u8]) {
-    io::write_all(STDOUT_FILENO, name);
-    list_print::print_source(src);
-}
 
 // The counts of an accepted object.
 fn counts_of(answer: Answer) -> Counts {
@@ -25,6 +22,77 @@ fn counts_of(answer: Answer) -> Counts {
         labels: answer.labels,
         relocations: answer.relocations,
     }
+}
+
+// The line of a refusal.
+fn print_refused(number: u16) {
+    io::write_all(STDOUT_FILENO, b"REFUSED ");
+    io::print_decimal(STDOUT_FILENO, number as u64);
+    io::write_all(STDOUT_FILENO, b"\n");
+}
+
+// What a call has answered: the listing of the object that it left in these buffers, or its refusal.
+fn print_answer(
+    answer: Answer,
+    blocks: &[u16],
+    words: &[u16],
+    marks: &[u8],
+    labels: &[u32],
+    relocations: &[u32],
+    names: &[u8],
+) {
+    if answer.number != 0 {
+        print_refused(answer.number);
+        return;
+    }
+    let c = counts_of(answer);
+    let mut text = [0u8; TEXT];
+    match list::list(
+        c,
+        blocks,
+        words,
+        marks,
+        labels,
+        relocations,
+        names,
+        &mut text,
+    ) {
+        Written::Bytes(n) => {
+            if n <= TEXT {
+                io::write_all(STDOUT_FILENO, &text[0..n]);
+            }
+        }
+        Written::Refused(number) => print_refused(number),
+    }
+}
+
+// An example's name, then its listing.
+fn show(name: &[u8], src: &[u8]) {
+    let mut blocks = [0u16; object::BLOCK_ROOM];
+    let mut words = [0u16; WORDS];
+    let mut marks = [0u8; WORDS];
+    let mut labels = [0u32; object::LABEL_ROOM];
+    let mut relocations = [0u32; object::RELOCATION_ROOM];
+    let mut names = [0u8; object::NAME_ROOM];
+    let answer = asm::assemble(
+        src,
+        &mut blocks,
+        &mut words,
+        &mut marks,
+        &mut labels,
+        &mut relocations,
+        &mut names,
+    );
+    io::write_all(STDOUT_FILENO, name);
+    print_answer(
+        answer,
+        &blocks,
+        &words,
+        &marks,
+        &labels,
+        &relocations,
+        &names,
+    );
 }
 
 // What is linked, then the listing of the link of two sources that assemble.
@@ -88,7 +156,7 @@ fn show_link(name: &[u8], first: &[u8], second: &[u8]) {
         &mut names,
     );
     io::write_all(STDOUT_FILENO, name);
-    list_print::print_answer(
+    print_answer(
         answer,
         &blocks,
         &words,

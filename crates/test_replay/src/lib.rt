@@ -1,8 +1,8 @@
 // What the programs that replay answers share: the fields of an answer read, an answer and its object held to them, and a source assembled into buffers that may lack some of
 // their full sizes.
-use list::Listed;
 use object::Counts;
 use object_answer::Answer;
+use object_answer::Written;
 ghost use Prim.Native.Nat.{_≤_};
 
 // How many numbers each lent buffer lacks of its full size, and where the field after them begins.
@@ -84,7 +84,7 @@ pub fn left(full: usize, lacking: usize) -> usize
     full - lacking
 }
 
-fn same_answer(a: Answer, b: Answer) -> bool {
+pub fn same_answer(a: Answer, b: Answer) -> bool {
     (a.number == b.number)
         & (a.start == b.start)
         & (a.end == b.end)
@@ -97,15 +97,15 @@ fn same_answer(a: Answer, b: Answer) -> bool {
 }
 
 // Whether a listing of less than 400 bytes is that of the digits, and a longer one has none.
-fn same_listing(listed: Listed, text: &[u8], digits: &[u8]) -> bool {
+fn same_listing(listed: Written, text: &[u8], digits: &[u8]) -> bool {
     match listed {
-        Listed::Bytes(n) => {
+        Written::Bytes(n) => {
             if n <= text.len() {
                 return test_support::same_hex(&text[0..n], digits);
             }
             false
         }
-        Listed::Refused(number) => (number == 51) & (digits.len() == 0),
+        Written::Refused(number) => (number == 51) & (digits.len() == 0),
     }
 }
 

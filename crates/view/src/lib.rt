@@ -32,8 +32,8 @@ pub fn print_too_long() {
     view_refusal::print_placeless(base_refusals::SOURCE_TOO_LONG);
 }
 
-// A source in the program's words.
-pub fn print_source(src: &[u8]) {
+// A source in the program's words; whether it is accepted.
+pub fn print_source(src: &[u8]) -> bool {
     let mut blocks = [0u16; object::BLOCK_ROOM];
     let mut words = [0u16; WORDS];
     let mut marks = [0u8; WORDS];
@@ -59,7 +59,8 @@ pub fn print_source(src: &[u8]) {
             &relocations,
             &names,
         );
-        return;
+        return true;
     }
     print_refused(src, answer);
+    false
 }

@@ -2,64 +2,12 @@
 use Prim.Native.Nat.{ℕ, zero, suc}
 use mathlib.Core.List.{List, [], _∷_, map}
 use lib.ListN.{getD}
-use Rattle.rules.specs.Base.{bytes}
+use Rattle.rules.specs.Answers.{refusalName}
+use Rattle.rules.specs.Buffers.{tab}
 
--- from 0 on; a number that is none has no name
+-- from 0 on, as the rules' table has them; a number that is none has no name
 unfoldable pub names : List (List ℕ)
-names =
-    [] ∷
-    bytes "DoesNotFitU16" ∷
-    bytes "DoesNotFitI16" ∷
-    bytes "InvalidHex" ∷
-    bytes "InvalidNumeric" ∷
-    bytes "InvalidHexEmpty" ∷
-    bytes "InvalidDecEmpty" ∷
-    bytes "UnclosedStrLit" ∷
-    bytes "StrLitTooBig" ∷
-    bytes "InvalidReg" ∷
-    bytes "InvalidSymbol" ∷
-    bytes "SourceTooLong" ∷
-    bytes "NonAscii" ∷
-    bytes "BadStatement" ∷
-    bytes "BadOperand" ∷
-    bytes "OperandRange" ∷
-    bytes "NameTooLong" ∷
-    [] ∷
-    [] ∷
-    [] ∷
-    bytes "UndetAddrLabel" ∷
-    bytes "UndetAddrStmt" ∷
-    bytes "UnclosedOrig" ∷
-    bytes "UnopenedOrig" ∷
-    bytes "OverlappingOrig" ∷
-    bytes "OverlappingLabels" ∷
-    bytes "WrappingBlock" ∷
-    bytes "BlockInIO" ∷
-    bytes "OverlappingBlocks" ∷
-    bytes "OffsetNewErr" ∷
-    bytes "OffsetExternal" ∷
-    bytes "CouldNotFindLabel" ∷
-    [] ∷
-    [] ∷
-    [] ∷
-    [] ∷
-    [] ∷
-    [] ∷
-    [] ∷
-    [] ∷
-    bytes "TableFull" ∷
-    bytes "NoRoom" ∷
-    bytes "ShortBuffer" ∷
-    bytes "BadObject" ∷
-    [] ∷
-    [] ∷
-    [] ∷
-    [] ∷
-    [] ∷
-    [] ∷
-    bytes "BadField" ∷
-    bytes "NoWriteRoom" ∷
-    []
+names = tab 52 refusalName
 
 -- filled up with spaces to so many bytes
 unfoldable pub filled : ℕ → List ℕ → List ℕ

@@ -1,8 +1,16 @@
 // A line of text for a terminal, written from the front into a lent buffer; what does not fit is left out.
+ghost use mathlib.Core.Path.{_≡_};
+ghost use mathlib.Core.List.{[], _∷_};
+ghost use Rattle.rules.specs.Listing.{lf};
+ghost use Rattle.list_lines.specs.Appended.{written};
+ghost use Rattle.view_text.specs.Put.{fitting, Put};
+ghost use Rattle.view_text.specs.Texts.{spaces, gap, decimal, counted, hexText, hexText2};
 use libc::STDOUT_FILENO;
 
 // A byte; the place behind it.
-pub fn put_byte(out: &mut [u8], at: usize, b: u8) -> usize {
+pub fn put_byte(out: &mut [u8], at: usize, b: u8) -> usize
+    ensures { λ r. ⌜ Put (now (out .entry)) (now (out .exit)) at r (b ∷ []) ⌝ }
+{
     if at < out.len() {
         out[at] = b;
         return at + 1;
@@ -11,7 +19,9 @@ pub fn put_byte(out: &mut [u8], at: usize, b: u8) -> usize {
 }
 
 // A text; the place behind it.
-pub fn put(out: &mut [u8], at: usize, text: &[u8]) -> usize {
+pub fn put(out: &mut [u8], at: usize, text: &[u8]) -> usize
+    ensures { λ r. ⌜ Put (now (out .entry)) (now (out .exit)) at r (now (text .entry)) ⌝ }
+{
     let mut i = 0;
     let mut end = at;
     while i < text.len() {
@@ -21,16 +31,26 @@ pub fn put(out: &mut [u8], at: usize, text: &[u8]) -> usize {
     end
 }
 
+// How many spaces lead up to a column, one at least.
+fn gap_to(at: usize, column: usize) -> usize
+    ensures { λ r. ⌜ r ≡ gap at column ⌝ }
+{
+    if at < column {
+        return column - at;
+    }
+    1
+}
+
 // Spaces up to a column, one at least.
-pub fn put_spaces(out: &mut [u8], at: usize, column: usize) -> usize {
-    let mut end = put_byte(out, at, b' ');
-    let mut left = column;
-    while left > 0 {
-        if column <= end {
-            return end;
-        }
+pub fn put_spaces(out: &mut [u8], at: usize, column: usize) -> usize
+    ensures { λ r. ⌜ Put (now (out .entry)) (now (out .exit)) at r (spaces (gap at column)) ⌝ }
+{
+    let n = gap_to(at, column);
+    let mut i = 0;
+    let mut end = at;
+    while i < n {
         end = put_byte(out, end, b' ');
-        left -= 1;
+        i += 1;
     }
     end
 }
@@ -39,14 +59,18 @@ pub fn put_spaces(out: &mut [u8], at: usize, column: usize) -> usize {
 const DECIMAL_DIGITS: usize = 20;
 
 // A number in decimal.
-pub fn put_decimal(out: &mut [u8], at: usize, n: u64) -> usize {
+pub fn put_decimal(out: &mut [u8], at: usize, n: u64) -> usize
+    ensures { λ r. ⌜ Put (now (out .entry)) (now (out .exit)) at r (decimal n) ⌝ }
+{
     let mut digits = [0u8; DECIMAL_DIGITS];
     let k = io::decimal(n, &mut digits);
     put(out, at, &digits[..k])
 }
 
 // A number with what it counts: 1 word, 2 words.
-pub fn put_count(out: &mut [u8], at: usize, n: u64, what: &[u8]) -> usize {
+pub fn put_count(out: &mut [u8], at: usize, n: u64, what: &[u8]) -> usize
+    ensures { λ r. ⌜ Put (now (out .entry)) (now (out .exit)) at r (counted n (now (what .entry))) ⌝ }
+{
     let a = put_decimal(out, at, n);
     let b = put_byte(out, a, b' ');
     let c = put(out, b, what);
@@ -57,14 +81,18 @@ pub fn put_count(out: &mut [u8], at: usize, n: u64, what: &[u8]) -> usize {
 }
 
 // An x and four hexadecimal digits.
-pub fn put_hex(out: &mut [u8], at: usize, v: u16) -> usize {
+pub fn put_hex(out: &mut [u8], at: usize, v: u16) -> usize
+    ensures { λ r. ⌜ Put (now (out .entry)) (now (out .exit)) at r (hexText v) ⌝ }
+{
     let digits = list_lines::hex4_of(v);
     let next = put_byte(out, at, b'x');
     put(out, next, &digits)
 }
 
 // An x and two hexadecimal digits.
-pub fn put_hex2(out: &mut [u8], at: usize, v: u16) -> usize {
+pub fn put_hex2(out: &mut [u8], at: usize, v: u16) -> usize
+    ensures { λ r. ⌜ Put (now (out .entry)) (now (out .exit)) at r (hexText2 v) ⌝ }
+{
     let digits = list_lines::hex4_of(v);
     let a = put_byte(out, at, b'x');
     let b = put_byte(out, a, digits[2]);
@@ -72,7 +100,9 @@ pub fn put_hex2(out: &mut [u8], at: usize, v: u16) -> usize {
 }
 
 // Writes the line, which ends here, with a line feed.
-pub fn print_line(out: &mut [u8], at: usize) {
+pub fn print_line(out: &mut [u8], at: usize)
+    ensures { λ _. ⌜ now (out .exit) ≡ written (now (out .entry)) at (fitting (now (out .entry)) at lf) ⌝ }
+{
     let end = put_byte(out, at, b'\n');
     if end <= out.len() {
         io::write_all(STDOUT_FILENO, &out[0..end]);

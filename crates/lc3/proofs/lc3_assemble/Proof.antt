@@ -17,4 +17,4 @@ lc3-assemble-spec =
     (λ c. search needs)
     (λ c. search needs)
     (λ c. search needs)
-    (λ c. (assembled-put (c .put-answer .ensures) (c .before .before .before .before .before .before .before .before .before .before .before .before .before .before .before .assemble .ensures) (c .before .before .told-answer .ensures), c .before .before .before .before .before .before .before .before .before .before .before .before .before .before .before .assemble .ensures .buffers)))
+    (λ c. (assembled-put (c .put-answer .ensures) (c .before .before .before .before .before .before .before .before .before .before .before .before .before .before .before .assemble .ensures) (c .before .told-answer .ensures), c .before .before .before .before .before .before .before .before .before .before .before .before .before .before .before .assemble .ensures .buffers)))

@@ -17,4 +17,4 @@ lc3-link-spec =
     (λ c. search needs)
     (λ c. search needs)
     (λ c. search needs)
-    (λ c. linked-put (c .put-answer .ensures) (c .before .before .before .before .before .before .before .before .before .before .before .before .before .before .before .link .ensures) (c .before .before .told-answer .ensures)))
+    (λ c. linked-put (c .put-answer .ensures) (c .before .before .before .before .before .before .before .before .before .before .before .before .before .before .before .link .ensures) (c .before .told-answer .ensures)))

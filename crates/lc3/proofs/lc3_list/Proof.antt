@@ -1,6 +1,6 @@
 -- `lc3::lc3_list` meets its contract. Assumes nothing.
 use borrow.Author.Needs.{needs}
-use Rattle.lc3.proofs.Told.{list-put}
+use Rattle.lc3.proofs.Told.{write-put}
 use Rattle.lc3.proofs.lc3_list.Statement.{statement}
 use Rattle.lc3.proofs.lc3_list.Tie as tie
 
@@ -12,4 +12,4 @@ lc3-list-spec =
     (λ c κs. search needs)
     (λ c κs. search needs)
     (λ c. search needs)
-    (λ c. list-put (c .put-answer .ensures) (c .before .before .before .before .before .list .ensures) (c .before .told-listed .ensures)))
+    (λ c. write-put (c .put-answer .ensures) (c .before .before .before .before .before .list .ensures) (c .before .told-written .ensures)))

@@ -1,21 +1,22 @@
 -- `list::list` meets its contract. Assumes nothing.
 use borrow.Author.Needs.{needs}
 use lib.ListN.{length}
-use Rattle.list.proofs.Listing.{zeros-still, is-valid, called-object, called-short, called-bad}
+use Rattle.object_check.proofs.Whole.{checked-valid}
+use Rattle.object_check.proofs.Writes.{zeros-still, writes-object, writes-short, writes-bad}
 use Rattle.list.proofs.list.Statement.{statement}
 use Rattle.list.proofs.list.Tie as tie
 
 list-object-requires : tie.Need-list-object-requires
-list-object-requires c κs = (is-valid _ _ _ (c .before .before .before .check-object .ensures) (c .before .enum-told .given .1), zeros-still _ (length (c .before .before .before .before .before .before .before .before .before .before .before .before .before .before .before .args .out .now)) (c .before .before .before .before .before .before .zero-u8 .ensures))
+list-object-requires c κs = (checked-valid _ (c .before .before .before .check-object .ensures) (c .before .enum-told .given .1), zeros-still _ (length (c .before .before .before .before .before .before .before .before .before .before .before .before .before .before .before .args .out .now)) (c .before .before .before .before .before .before .zero-u8 .ensures))
 
 returns : tie.Need-returns
-returns c = called-object _ _ _ (c .before .before .before .before .before .before .check-object .ensures) _ _ _ _ (c .before .before .before .before .enum-told .given .1) (c .before .before .before .before .before .before .before .before .before .zero-u8 .ensures) (c .before .before .list-object .ensures)
+returns c = writes-object _ _ _ _ (c .before .before .before .before .before .before .check-object .ensures) _ _ _ _ (c .before .before .before .before .enum-told .given .1) (c .before .before .before .before .before .before .before .before .before .zero-u8 .ensures) (c .before .before .list-object .ensures)
 
 returns-2 : tie.Need-returns-2
-returns-2 c = called-short _ _ _ (c .before .before .check-object .ensures) _ _ (c .enum-told2 .given .1) (c .before .before .before .before .before .zero-u8 .ensures)
+returns-2 c = writes-short _ _ _ _ (c .before .before .check-object .ensures) _ _ (c .enum-told2 .given .1) (c .before .before .before .before .before .zero-u8 .ensures)
 
 returns-3 : tie.Need-returns-3
-returns-3 c = called-bad _ _ _ (c .before .before .check-object .ensures) _ _ (c .enum-told3 .given .1) (c .before .before .before .before .before .zero-u8 .ensures)
+returns-3 c = writes-bad _ _ _ _ (c .before .before .check-object .ensures) _ _ (c .enum-told3 .given .1) (c .before .before .before .before .before .zero-u8 .ensures)
 
 pub list-spec : {M : Type 1} → statement M
 list-spec =

@@ -1,6 +1,6 @@
 -- `object_check_labels::check_labels` meets its contract. Assumes nothing.
 use Prim.Native.Nat.{_-_}
-use Rattle.object_check_labels.proofs.Rules.{LabelsTo, labels-many, labels-short, labels-none, labels-row, labels-named, labels-down, labels-more, labels-all}
+use Rattle.object_check_labels.proofs.Rules.{LabelsTo, labels-many, labels-short, labels-none, labels-row, labels-down, labels-more, labels-all}
 use borrow.Author.Needs.{needs}
 use Rattle.object_check_labels.proofs.check_labels.Statement.{statement}
 use Rattle.object_check_labels.proofs.check_labels.Tie as tie
@@ -22,7 +22,7 @@ check-labels-spec =
     (λ c. search (needs, labels-short))
     (λ c. search (needs, labels-none))
     (λ c κs. search needs)
-    (λ c κs. search (needs, labels-named))
+    (λ c κs. search needs)
     (λ c. search needs)
     (λ c. search needs)
     (λ c. search (needs, labels-more))

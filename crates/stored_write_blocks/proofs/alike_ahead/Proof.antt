@@ -2,7 +2,8 @@
 use borrow.Author.Needs.{needs}
 use Prim.Native.Nat.{_-_}
 use lib.ListN.{length}
-use Rattle.stored_write_blocks.proofs.Ahead.{Passed, passed-none, passed-more, passed-stop, passed-all}
+use Rattle.stored_write_blocks.specs.Runs.{Passed}
+use Rattle.stored_write_blocks.proofs.Ahead.{passed-none, passed-step}
 use Rattle.stored_write_blocks.proofs.alike_ahead.Statement.{statement}
 use Rattle.stored_write_blocks.proofs.alike_ahead.Tie as tie
 
@@ -12,28 +13,22 @@ Inv-loop marks mark i₀ i = Passed mark marks i
 abbrev μ-loop : tie.MeasureT-loop
 μ-loop marks mark i₀ i = length marks - i
 
-loop-holds : tie.Need-loop-holds Inv-loop μ-loop
-loop-holds c = search (needs, passed-none)
-
-loop-again : tie.Need-loop-again Inv-loop μ-loop
-loop-again c = search (needs, passed-more)
-
-returns : tie.Need-returns Inv-loop μ-loop
-returns c = search (needs, passed-stop)
-
-returns-2 : tie.Need-returns-2 Inv-loop μ-loop
-returns-2 c = search (needs, passed-all)
-
 pub alike-ahead-spec : {M : Type 1} → statement M
 alike-ahead-spec =
     tie.close
     (tie.spec
     Inv-loop
     μ-loop
-    loop-holds
+    (λ c. search (needs, passed-none))
     (λ c. search needs)
     (λ c. search needs)
     (λ c. search needs)
-    loop-again
-    returns
-    returns-2)
+    (λ c. search needs)
+    (λ c. search needs)
+    (λ c κs. search needs)
+    (λ c. search needs)
+    (λ c. search (needs, passed-step))
+    (λ c κs. search needs)
+    (λ c. search needs)
+    (λ c κs. search needs)
+    (λ c. search needs))

@@ -1,0 +1,6 @@
+-- Every refusal of assembling has a number of the table. Assumes nothing.
+pub mod Stages
+pub mod Bounds
+pub mod Tokens
+pub mod Statements
+pub mod Passes

@@ -1,0 +1,2 @@
+-- What the contracts of `lc3_input` cite. Assumes nothing.
+pub mod Held

@@ -1,0 +1,140 @@
+-- What the listing program prints, by the call that assembles in its buffers. Assumes nothing.
+use Prim.Native.Nat.{ℕ, _+_, _≤_, _<_}
+use mathlib.Core.Path.{_≡_, refl, sym, _∙_, ap, subst}
+use mathlib.Core.Bool.{Bool, true, false}
+use mathlib.Core.List.{List, [], _∷_, _++_, append-nil}
+use native.Mathlib.Omega.{arith}
+use borrow.Author.Tests.{eq-eqb, ne-eqb, le-leb, lt-leb, le-ltb}
+use lib.Dec.{ltb}
+use lib.ListN.{length, length-append, length-replicate}
+use Rattle.rules.specs.Base.{if_then_else_, Outcome, ok, refused, refuse, Refusal, nowhere}
+use Rattle.rules.specs.Capacities.{programSourceRoom, programWordRoom}
+use Rattle.rules.specs.Answers.{answer}
+use Rattle.rules.specs.Objects.{Object, Counts, countsOf, heads}
+use Rattle.rules.specs.Buffers.{Buffers, six, short, least, lentWords, Valid, view, layout, zeros, lay, headCells, labelCells, relocCells, nameBytes, layBlocks, layLabels, layRelocs, layNames}
+use Rattle.rules.specs.Calls.{ofBytes}
+use Rattle.rules.specs.Passes.{assemble}
+use Rattle.rules.specs.Listing.{listing, printed, assembled, listingProgram}
+use Rattle.rules.proofs.Bools.{never}
+use Rattle.rules.proofs.Laid.{view-layout}
+use Rattle.rules.proofs.Fits.{long}
+use Rattle.laws_numbers.proofs.Bounds.{Within, known-within}
+use Rattle.laws_numbers.proofs.Passes.{assembling-numbered}
+use Rattle.laws_accepted.proofs.Accepted.{accepted-fits}
+use Rattle.object.specs.Meaning.{counts}
+use Rattle.object_answer.specs.declared.Answer.{Answer}
+use Rattle.object_answer.specs.Meant.{Leaves}
+use Rattle.asm.specs.Call.{called, Assembled}
+use Rattle.asm.proofs.Accepting.{accepted-call}
+use Rattle.list_print.specs.Program.{Wrote, follows, countsIn, tells, Tellable}
+use Rattle.list_print.proofs.Most.{listing-most}
+
+-- THE BUFFERS THAT THE PROGRAM LENDS
+abbrev lent : Buffers
+lent = six (zeros 128) (zeros 32768) (zeros 32768) (zeros 4096) (zeros 2048) (zeros 65536)
+
+long-enough : (b : Buffers) → length (b .blocks) ≡ 128 → length (b .labels) ≡ 4096 → length (b .relocs) ≡ 2048 → length (b .names) ≡ 65536 → short b ≡ false
+unfolding short
+long-enough b p q r s = rw (p, q, r, s) refl
+
+lent-long : short lent ≡ false
+lent-long = long-enough lent (length-replicate {A = ℕ} 128 0) (length-replicate {A = ℕ} 4096 0) (length-replicate {A = ℕ} 2048 0) (length-replicate {A = ℕ} 65536 0)
+
+lent-words : lentWords (lent .words) (lent .marks) ≡ programWordRoom
+unfolding lentWords least if_then_else_
+lent-words = rw (length-replicate {A = ℕ} 32768 0) refl
+
+-- buffers of full size stay so when an object is written into them
+lay-long : (l : List ℕ) (len n : ℕ) → n ≤ len → ltb (length (lay l len)) n ≡ false
+lay-long l len n h = le-ltb (length (lay l len)) n (rw (length-append, length-replicate) (omega arith))
+
+layout-long : (o : Object) (b : Buffers) → short b ≡ false → short (layout o b) ≡ false
+unfolding short layBlocks layLabels layRelocs layNames
+layout-long o b e =
+    let L = long b e in
+    let p = lay-long (headCells (heads (o .blocks))) (length (b .blocks)) 128 (L .blocks) in
+    let q = lay-long (labelCells 0 (o .labels)) (length (b .labels)) 4096 (L .labels) in
+    let r = lay-long (relocCells (o .labels) (o .relocs)) (length (b .relocs)) 2048 (L .relocs) in
+    let s = lay-long (nameBytes (o .labels)) (length (b .names)) 65536 (L .names) in
+    rw (p, q, r, s)
+
+-- THE CALL
+module _ (s : List ℕ) where
+  called-is : called lent s ≡ assemble programWordRoom s
+  unfolding called ofBytes if_then_else_
+  called-is = rw (lent-long, lent-words) refl
+
+  assembled-is : length s ≤ 65536 → assembled s ≡ assemble programWordRoom s
+  unfolding assembled
+  assembled-is h = rw (le-leb (length s) programSourceRoom h) refl
+
+  module _ (r : Answer) (b : Buffers) (l : Assembled lent s r b) (len : ℕ) (h : 482304 ≤ len) where
+    record Told (o : Outcome Object) : Type 0 where
+      tellable : Tellable r b len
+      same : tells r b ≡ printed o
+
+    told-object : (x : Object) → assemble programWordRoom s ≡ ok x → Told (ok x)
+    unfolding tells if_then_else_ printed
+    told-object x e =
+        let c = accepted-call lent s r b x l (called-is ∙ e) in
+        let k : counts (countsIn r) ≡ countsOf x = ap (λ a. a .counts) (c .counts) in
+        let n : r .number ≡ 0 = ap (λ a. a .number) (c .counts) in
+        let v : view (counts (countsIn r)) b ≡ x = ap (λ (d : Counts). view d b) k ∙ (ap (λ (d : Buffers). view (countsOf x) d) (c .laid) ∙ view-layout x lent (c .good)) in
+        let m : length (listing x) ≤ 482304 = listing-most x (c .good) (accepted-fits programWordRoom s x e) in
+        record {
+          tellable = record {
+            low = omega (arith, n);
+            line = omega arith;
+            valid = λ z. subst (λ (d : Counts). Valid d b) (sym k) (c .valid);
+            long = λ z. rw (c .laid) (layout-long x lent lent-long);
+            fits = λ z. omega (arith, ap (λ (o : Object). length (listing o)) v, m, h);
+          };
+          same = rw (eq-eqb (r .number) 0 n) (ap listing v);
+        }
+
+    told-refused : (q : Refusal) → assemble programWordRoom s ≡ refused q → Told (refused q)
+    unfolding tells if_then_else_ printed answer
+    told-refused q e =
+        let p : called lent s ≡ refused q = called-is ∙ e in
+        let t : Leaves (refused q) lent r b = rw p at l in
+        let n : r .number ≡ q .number = ap (λ a. a .number) (t .answer) in
+        let w : Within (q .number) = known-within (q .number) (assembling-numbered programWordRoom s .number q e) in
+        let z : r .number ≡ 0 → ⊥ = λ y. absurd (omega (arith, y, n, w .some)) in
+        record {
+          tellable = record {
+            low = omega (arith, n, w .few);
+            line = omega arith;
+            valid = λ y. absurd (z y);
+            long = λ y. absurd (z y);
+            fits = λ y. absurd (z y);
+          };
+          same = rw (ne-eqb (r .number) 0 z, n) refl;
+        }
+
+    told : (o : Outcome Object) → assemble programWordRoom s ≡ o → Told o
+    told (ok x) e = told-object x e
+    told (refused q) e = told-refused q e
+
+    pub call-tellable : Tellable r b len
+    call-tellable = told (assemble programWordRoom s) refl .tellable
+
+    pub call-wrote : length s ≤ 65536 → (n : ℕ) (out : List ℕ) → Wrote (tells r b) len n out → Wrote (listingProgram s) len n out
+    unfolding listingProgram
+    call-wrote f n out w =
+        let p : tells r b ≡ printed (assembled s) = told (assemble programWordRoom s) refl .same ∙ ap printed (sym (assembled-is f)) in
+        rw p at w
+
+-- THE PROGRAM
+pub whole-listed : (s : List ℕ) (len n : ℕ) (out : List ℕ) (more : Bool) → more ≡ false → Wrote (listingProgram s) len n out → (rest : List ℕ) → more ≡ follows rest → Wrote (listingProgram (s ++ rest)) len n out
+unfolding follows
+whole-listed s len n out more e w [] f = rw (append-nil s) w
+whole-listed s len n out more e w (x ∷ rest) f = never cc
+
+pub more-listed :
+    (s : List ℕ) (len n : ℕ) (out : List ℕ) (more : Bool) → more ≡ true → (more ≡ true → length s ≡ 65536) → Wrote (printed (refuse 11 nowhere)) len n out → (rest : List ℕ) → more ≡ follows rest
+    → Wrote (listingProgram (s ++ rest)) len n out
+unfolding follows listingProgram assembled printed
+more-listed s len n out more e h w [] f = never cc
+more-listed s len n out more e h w (x ∷ rest) f =
+    let k : 65536 < length (s ++ x ∷ rest) = omega (arith, h e, length-append s (x ∷ rest)) in
+    rw (lt-leb (length (s ++ x ∷ rest)) programSourceRoom k) w

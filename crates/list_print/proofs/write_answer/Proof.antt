@@ -1,0 +1,26 @@
+-- `list_print::write_answer` meets its contract. Assumes nothing.
+use Rattle.list_print.proofs.Telling.{answer-valid, answer-fits, tells-object, tells-refused}
+use borrow.Author.Needs.{needs}
+use Rattle.list_print.proofs.write_answer.Statement.{statement}
+use Rattle.list_print.proofs.write_answer.Tie as tie
+
+write-object-requires : tie.Need-write-object-requires
+write-object-requires c κs = (answer-valid _ _ _ (c .before .before .if1 .taken) _ (c .before .counts-of .ensures) (c .before .before .before .before .before .before .before .before .before .before .before .pre), (c .before .before .before .before .before .before .before .before .before .before .before .pre .long (c .before .before .if1 .taken), answer-fits _ _ _ (c .before .before .if1 .taken) _ (c .before .counts-of .ensures) (c .before .before .before .before .before .before .before .before .before .before .before .pre)))
+
+returns : tie.Need-returns
+returns c = tells-object _ _ _ (c .before .before .before .before .before .if1 .taken) _ (c .before .before .before .before .counts-of .ensures) _ _ (c .before .before .write-object .ensures)
+
+returns-2 : tie.Need-returns-2
+returns-2 c = tells-refused _ _ _ _ _ (c .before .before .before .before .if1 .left) (c .before .before .write-refused .ensures)
+
+pub write-answer-spec : {M : Type 1} → statement M
+write-answer-spec =
+    tie.close
+    (tie.spec
+    (λ c κs. search needs)
+    write-object-requires
+    (λ c. search needs)
+    returns
+    (λ c κs. search needs)
+    (λ c. search needs)
+    returns-2)

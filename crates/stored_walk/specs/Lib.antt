@@ -1,0 +1,3 @@
+-- What the contracts of `stored_walk` cite beside the rules. Assumes nothing.
+pub mod Walking
+pub mod Behind

@@ -1,0 +1,3 @@
+-- Laws that the proofs of `view_text` cite. Assumes nothing.
+pub mod Putting
+pub mod Texts
