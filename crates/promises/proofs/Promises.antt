@@ -99,6 +99,7 @@ use Rattle.rules.specs.Answers.{numbers, answer}
 use Rattle.object_answer.specs.Meant.{AcceptedCall}
 use Rattle.object_answer.specs.Meant.{meant as meantAnswer}
 use Rattle.object_answer.proofs.Leaving as Leaving
+use Rattle.list_print.specs.Program as Program
 use Rattle.stored_load.specs.Call as LoadCall
 use Rattle.stored_load.specs.Call.{Loaded}
 use Rattle.stored_load.proofs.Accepting as Loading
@@ -439,6 +440,12 @@ pub stored-object-loads :
     (c : Counts) (b : Buffers) (len n : ℕ) (x : List ℕ) (out : Buffers) (r : Making.Answer) (y : Buffers) → StoreCall.Called c b len (Bytes n) x → ((i : ℕ) → getD (b .words) i 0 < 65536)
     → short out ≡ false → c .words ≤ lentWords (out .words) (out .marks) → Loaded out (take n x) r y → AcceptedCall out r y (view c b)
 stored-object-loads = LoadingBack.stored-loads
+
+-- THE LISTING PROGRAM, `list_print::list_source`: of an input whose first bytes were read, and which goes on or not, the text holds what `Listing.listingProgram` says of all of it. Two
+-- answers that this allows are equal, and so is the text.
+pub listing-program-one-answer :
+    (src : List ℕ) (more : Bool) (len r s : ℕ) (x y : List ℕ) → Program.Listed src more len r x → Program.Listed src more len s y → (r ≡ s) × (x ≡ y)
+listing-program-one-answer src more len r s x y = Program.listed-once src len more
 
 -- THE CALLS FROM OTHER LANGUAGES, crate `lc3`. Two answers of nine numbers that a contract allows are equal: `lc3_next_token`; `lc3_first_refusal`; `lc3_disassemble`;
 -- `lc3_assemble`, and the six buffers too; `lc3_link`, and the six buffers too; `lc3_list` and `lc3_store`, and the buffer of bytes too; `lc3_check`; `lc3_load`, and the six buffers too; `lc3_lookup_label`; `lc3_rev_lookup_label`.
