@@ -8,7 +8,7 @@ use object_answer::Written;
 // How many words an example may have, and how many bytes its listing.
 const WORDS: usize = 1024;
 
-const TEXT: usize = 1024;
+const TEXT: usize = 4096;
 
 const P2: [u8; 61] = *b".external F\n.orig x3000\nLD R1, P\nJSRR R1\nHALT\nP .fill F\n.end\n";
 
