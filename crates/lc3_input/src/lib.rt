@@ -1,25 +1,42 @@
-// What the programs behind ./lc3 share: standard input read into a lent buffer, an error told apart from its end, and the answer told to whoever runs the program.
-use libc::STDERR_FILENO;
+// What the programs behind ./lc3 share: a file or standard input read into a lent buffer, an error told apart from its end, and the byte by which an answer is told to whoever runs the program.
 use libc::STDIN_FILENO;
-ghost use Rattle.lc3_input.specs.Held.{Held};
+ghost use mathlib.Core.Path.{_≡_};
+ghost use Rattle.lc3_input.specs.Held.{Held, firstOf, statusOf};
 
-// What standard input was: all of it, so many bytes at the front of the buffer; longer than the buffer; or not to be read to its end.
+// What an input was: all of it, so many bytes at the front of the buffer; longer than the buffer; or not to be read to its end.
 pub enum Input {
     Whole(usize),
     Longer,
     Failed,
 }
 
-// Where ./lc3 waits for the answer: 0 accepted, 1 refused; nothing where the program could not do its work.
-const STATUS_FILENO: i32 = 3;
+// Where ./lc3 waits for the answer.
+pub const STATUS_FILENO: i32 = 3;
 
-// Standard input. After what was read one more byte is asked for: there is none at the end of the input, one where it is longer than the buffer, and an error where reading failed.
-pub fn read_input(buffer: &mut [u8]) -> Input
+// The answers: accepted, refused, could not be done.
+pub const ACCEPTED: u8 = b'0';
+
+pub const REFUSED: u8 = b'1';
+
+pub const FAILED: u8 = b'2';
+
+// Whether an input is accepted, as the byte that tells it.
+pub fn status_of(accepted: bool) -> u8
+    ensures { λ r. ⌜ r ≡ statusOf accepted ⌝ }
+{
+    if accepted {
+        return ACCEPTED;
+    }
+    REFUSED
+}
+
+// An open file to its end. After what was read one more byte is asked for: there is none at the end of the input, one where it is longer than the buffer, and an error where reading failed.
+pub fn read_input(file: i32, buffer: &mut [u8]) -> Input
     ensures { λ r. ⌜ Held (now (buffer .exit)) r ⌝ }
 {
-    let size = io::read_full(STDIN_FILENO, buffer);
+    let size = io::read_full(file, buffer);
     let mut more = [0u8; 1];
-    let next = libc::read(STDIN_FILENO, &mut more);
+    let next = libc::read(file, &mut more);
     if next == 0 {
         return Input::Whole(size);
     }
@@ -29,16 +46,30 @@ pub fn read_input(buffer: &mut [u8]) -> Input
     Input::Failed
 }
 
-// Tells that standard input could not be read to its end.
-pub fn tell_failed() {
-    io::write_all(STDERR_FILENO, b"lc3: standard input cannot be read\n");
+// A file by its name; `-` is standard input.
+pub fn read_file(path: &[u8], buffer: &mut [u8]) -> Input
+    ensures { λ r. ⌜ Held (now (buffer .exit)) r ⌝ }
+{
+    if path.len() == 1 {
+        if path[0] == b'-' {
+            return read_input(STDIN_FILENO, buffer);
+        }
+    }
+    let file = os::open_read(path);
+    if file < 0 {
+        return Input::Failed;
+    }
+    let input = read_input(file, buffer);
+    libc::close(file);
+    input
 }
 
-// Tells whether what was read is accepted.
-pub fn tell_accepted(accepted: bool) {
-    if accepted {
-        io::write_all(STATUS_FILENO, b"0");
-        return;
+// The first n bytes, as far as they are there.
+pub fn front(buffer: &[u8], n: usize) -> &[u8]
+    ensures { λ r. ⌜ now r ≡ firstOf n (now (buffer .entry)) ⌝ }
+{
+    if n <= buffer.len() {
+        return &buffer[0..n];
     }
-    io::write_all(STATUS_FILENO, b"1");
+    buffer
 }

@@ -4,6 +4,9 @@ ghost use mathlib.Core.Bool.{true};
 ghost use Prim.Native.Nat.{_≤_};
 ghost use lib.ListN.{length};
 use lc3_input::Input;
+use lc3_input::STATUS_FILENO;
+use libc::STDERR_FILENO;
+use libc::STDIN_FILENO;
 use libc::STDOUT_FILENO;
 use list_print::LISTING_BYTES;
 use list_print::SOURCE_BYTES;
@@ -15,6 +18,15 @@ fn print_front(text: &[u8], n: usize) -> bool
     io::write_all(STDOUT_FILENO, &text[..n])
 }
 
+// Tells the answer to whoever runs the program, or that the listing was not written whole.
+fn tell(written: bool, accepted: bool) {
+    if written {
+        io::write_all(STATUS_FILENO, &[lc3_input::status_of(accepted)]);
+        return;
+    }
+    io::write_all(STDERR_FILENO, b"lc3: standard output cannot be written\n");
+}
+
 // A source listed on standard output, and whether it is accepted told: only the line of a refusal begins with an R.
 fn print_listing(src: &[u8], more: bool)
     requires { ⌜ length (now src) ≤ 65536 ⌝ }
@@ -22,9 +34,8 @@ fn print_listing(src: &[u8], more: bool)
 {
     let mut text = [0u8; LISTING_BYTES];
     let n = list_print::list_source(src, more, &mut text);
-    if print_front(&text, n) {
-        lc3_input::tell_accepted(text[0] != b'R');
-    }
+    let written = print_front(&text, n);
+    tell(written, text[0] != b'R');
 }
 
 // All of an input that the program holds.
@@ -41,20 +52,14 @@ fn print_longer(src: &[u8]) {
     }
 }
 
-// The first n bytes, as far as they are there.
-fn front(buffer: &[u8], n: usize) -> &[u8] {
-    if n <= buffer.len() {
-        return &buffer[0..n];
-    }
-    buffer
-}
-
 // Reads standard input and lists it.
 fn list_input(source: &mut [u8]) {
-    match lc3_input::read_input(source) {
-        Input::Whole(size) => print_whole(front(source, size)),
+    match lc3_input::read_input(STDIN_FILENO, source) {
+        Input::Whole(size) => print_whole(lc3_input::front(source, size)),
         Input::Longer => print_longer(source),
-        Input::Failed => lc3_input::tell_failed(),
+        Input::Failed => {
+            io::write_all(STDERR_FILENO, b"lc3: standard input cannot be read\n");
+        }
     }
 }
 

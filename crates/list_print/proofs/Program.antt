@@ -10,7 +10,7 @@ use lib.ListN.{length, length-append, length-replicate}
 use Rattle.rules.specs.Base.{if_then_else_, Outcome, ok, refused, refuse, Refusal, nowhere}
 use Rattle.rules.specs.Capacities.{programSourceRoom, programWordRoom}
 use Rattle.rules.specs.Answers.{answer}
-use Rattle.rules.specs.Objects.{Object, Counts, countsOf, heads}
+use Rattle.rules.specs.Objects.{Object, Counts, countsOf, heads, flat}
 use Rattle.rules.specs.Buffers.{Buffers, six, short, least, lentWords, Valid, view, layout, zeros, lay, headCells, labelCells, relocCells, nameBytes, layBlocks, layLabels, layRelocs, layNames}
 use Rattle.rules.specs.Calls.{ofBytes}
 use Rattle.rules.specs.Passes.{assemble}
@@ -23,24 +23,24 @@ use Rattle.laws_numbers.proofs.Passes.{assembling-numbered}
 use Rattle.laws_accepted.proofs.Accepted.{accepted-fits}
 use Rattle.object.specs.Meaning.{counts}
 use Rattle.object_answer.specs.declared.Answer.{Answer}
-use Rattle.object_answer.specs.Meant.{Leaves}
+use Rattle.object_answer.specs.Meant.{countsIn, Leaves, AcceptedCall}
 use Rattle.asm.specs.Call.{called, Assembled}
 use Rattle.asm.proofs.Accepting.{accepted-call}
-use Rattle.list_print.specs.Program.{Wrote, follows, countsIn, tells, Tellable}
+use Rattle.list_print.specs.Program.{Wrote, follows, tells, Tellable}
 use Rattle.list_print.proofs.Most.{listing-most}
 
 -- THE BUFFERS THAT THE PROGRAM LENDS
-abbrev lent : Buffers
+abbrev pub lent : Buffers
 lent = six (zeros 128) (zeros 32768) (zeros 32768) (zeros 4096) (zeros 2048) (zeros 65536)
 
 long-enough : (b : Buffers) → length (b .blocks) ≡ 128 → length (b .labels) ≡ 4096 → length (b .relocs) ≡ 2048 → length (b .names) ≡ 65536 → short b ≡ false
 unfolding short
 long-enough b p q r s = rw (p, q, r, s) refl
 
-lent-long : short lent ≡ false
+pub lent-long : short lent ≡ false
 lent-long = long-enough lent (length-replicate {A = ℕ} 128 0) (length-replicate {A = ℕ} 4096 0) (length-replicate {A = ℕ} 2048 0) (length-replicate {A = ℕ} 65536 0)
 
-lent-words : lentWords (lent .words) (lent .marks) ≡ programWordRoom
+pub lent-words : lentWords (lent .words) (lent .marks) ≡ programWordRoom
 unfolding lentWords least if_then_else_
 lent-words = rw (length-replicate {A = ℕ} 32768 0) refl
 
@@ -58,7 +58,66 @@ layout-long o b e =
     let s = lay-long (nameBytes (o .labels)) (length (b .names)) 65536 (L .names) in
     rw (p, q, r, s)
 
--- THE CALL
+-- A CALL, of whatever outcome: what it leaves in these buffers tells the outcome, if what is accepted is good and fits, and what is refused has a number of the table
+pub record Telling (o : Outcome Object) (r : Answer) (b : Buffers) : Type 0 where
+  pub left : Leaves o lent r b
+  pub good : (x : Object) → o ≡ ok x → AcceptedCall lent r b x
+  pub fits : (x : Object) → o ≡ ok x → length (flat (x .blocks)) ≤ programWordRoom
+  pub known : (q : Refusal) → o ≡ refused q → Within (q .number)
+
+module _ (o : Outcome Object) (r : Answer) (b : Buffers) (l : Telling o r b) (len : ℕ) (h : 482304 ≤ len) where
+  record Told (p : Outcome Object) : Type 0 where
+    tellable : Tellable r b len
+    same : tells r b ≡ printed p
+
+  told-object : (x : Object) → o ≡ ok x → Told (ok x)
+  unfolding tells if_then_else_ printed
+  told-object x e =
+      let c = l .good x e in
+      let k : counts (countsIn r) ≡ countsOf x = ap (λ a. a .counts) (c .counts) in
+      let n : r .number ≡ 0 = ap (λ a. a .number) (c .counts) in
+      let v : view (counts (countsIn r)) b ≡ x = ap (λ (d : Counts). view d b) k ∙ (ap (λ (d : Buffers). view (countsOf x) d) (c .laid) ∙ view-layout x lent (c .good)) in
+      let m : length (listing x) ≤ 482304 = listing-most x (c .good) (l .fits x e) in
+      record {
+        tellable = record {
+          low = omega (arith, n);
+          line = omega arith;
+          valid = λ z. subst (λ (d : Counts). Valid d b) (sym k) (c .valid);
+          long = λ z. rw (c .laid) (layout-long x lent lent-long);
+          fits = λ z. omega (arith, ap (λ (o : Object). length (listing o)) v, m, h);
+        };
+        same = rw (eq-eqb (r .number) 0 n) (ap listing v);
+      }
+
+  told-refused : (q : Refusal) → o ≡ refused q → Told (refused q)
+  unfolding tells if_then_else_ printed answer
+  told-refused q e =
+      let t : Leaves (refused q) lent r b = rw e at (l .left) in
+      let n : r .number ≡ q .number = ap (λ a. a .number) (t .answer) in
+      let w : Within (q .number) = l .known q e in
+      let z : r .number ≡ 0 → ⊥ = λ y. absurd (omega (arith, y, n, w .some)) in
+      record {
+        tellable = record {
+          low = omega (arith, n, w .few);
+          line = omega arith;
+          valid = λ y. absurd (z y);
+          long = λ y. absurd (z y);
+          fits = λ y. absurd (z y);
+        };
+        same = rw (ne-eqb (r .number) 0 z, n) refl;
+      }
+
+  told : (p : Outcome Object) → o ≡ p → Told p
+  told (ok x) e = told-object x e
+  told (refused q) e = told-refused q e
+
+  pub telling-tellable : Tellable r b len
+  telling-tellable = told o refl .tellable
+
+  pub telling-wrote : (n : ℕ) (out : List ℕ) → Wrote (tells r b) len n out → Wrote (printed o) len n out
+  telling-wrote n out w = let p = told o refl .same in rw p at w
+
+-- ASSEMBLING
 module _ (s : List ℕ) where
   called-is : called lent s ≡ assemble programWordRoom s
   unfolding called ofBytes if_then_else_
@@ -69,60 +128,21 @@ module _ (s : List ℕ) where
   assembled-is h = rw (le-leb (length s) programSourceRoom h) refl
 
   module _ (r : Answer) (b : Buffers) (l : Assembled lent s r b) (len : ℕ) (h : 482304 ≤ len) where
-    record Told (o : Outcome Object) : Type 0 where
-      tellable : Tellable r b len
-      same : tells r b ≡ printed o
-
-    told-object : (x : Object) → assemble programWordRoom s ≡ ok x → Told (ok x)
-    unfolding tells if_then_else_ printed
-    told-object x e =
-        let c = accepted-call lent s r b x l (called-is ∙ e) in
-        let k : counts (countsIn r) ≡ countsOf x = ap (λ a. a .counts) (c .counts) in
-        let n : r .number ≡ 0 = ap (λ a. a .number) (c .counts) in
-        let v : view (counts (countsIn r)) b ≡ x = ap (λ (d : Counts). view d b) k ∙ (ap (λ (d : Buffers). view (countsOf x) d) (c .laid) ∙ view-layout x lent (c .good)) in
-        let m : length (listing x) ≤ 482304 = listing-most x (c .good) (accepted-fits programWordRoom s x e) in
+    assembling-tells : Telling (assemble programWordRoom s) r b
+    assembling-tells =
         record {
-          tellable = record {
-            low = omega (arith, n);
-            line = omega arith;
-            valid = λ z. subst (λ (d : Counts). Valid d b) (sym k) (c .valid);
-            long = λ z. rw (c .laid) (layout-long x lent lent-long);
-            fits = λ z. omega (arith, ap (λ (o : Object). length (listing o)) v, m, h);
-          };
-          same = rw (eq-eqb (r .number) 0 n) (ap listing v);
+          left = rw called-is at l;
+          good = λ x e. accepted-call lent s r b x l (called-is ∙ e);
+          fits = λ x e. accepted-fits programWordRoom s x e;
+          known = λ q e. known-within (q .number) (assembling-numbered programWordRoom s .number q e);
         }
-
-    told-refused : (q : Refusal) → assemble programWordRoom s ≡ refused q → Told (refused q)
-    unfolding tells if_then_else_ printed answer
-    told-refused q e =
-        let p : called lent s ≡ refused q = called-is ∙ e in
-        let t : Leaves (refused q) lent r b = rw p at l in
-        let n : r .number ≡ q .number = ap (λ a. a .number) (t .answer) in
-        let w : Within (q .number) = known-within (q .number) (assembling-numbered programWordRoom s .number q e) in
-        let z : r .number ≡ 0 → ⊥ = λ y. absurd (omega (arith, y, n, w .some)) in
-        record {
-          tellable = record {
-            low = omega (arith, n, w .few);
-            line = omega arith;
-            valid = λ y. absurd (z y);
-            long = λ y. absurd (z y);
-            fits = λ y. absurd (z y);
-          };
-          same = rw (ne-eqb (r .number) 0 z, n) refl;
-        }
-
-    told : (o : Outcome Object) → assemble programWordRoom s ≡ o → Told o
-    told (ok x) e = told-object x e
-    told (refused q) e = told-refused q e
 
     pub call-tellable : Tellable r b len
-    call-tellable = told (assemble programWordRoom s) refl .tellable
+    call-tellable = telling-tellable (assemble programWordRoom s) r b assembling-tells len h
 
     pub call-wrote : length s ≤ 65536 → (n : ℕ) (out : List ℕ) → Wrote (tells r b) len n out → Wrote (listingProgram s) len n out
     unfolding listingProgram
-    call-wrote f n out w =
-        let p : tells r b ≡ printed (assembled s) = told (assemble programWordRoom s) refl .same ∙ ap printed (sym (assembled-is f)) in
-        rw p at w
+    call-wrote f n out w = rw (assembled-is f) (telling-wrote (assemble programWordRoom s) r b assembling-tells len h n out w)
 
 -- THE PROGRAM
 pub whole-listed : (s : List ℕ) (len n : ℕ) (out : List ℕ) (more : Bool) → more ≡ false → Wrote (listingProgram s) len n out → (rest : List ℕ) → more ≡ follows rest → Wrote (listingProgram (s ++ rest)) len n out

@@ -15,13 +15,14 @@ use Rattle.rules.specs.Listing.{listing, list, printed}
 use Rattle.rules.proofs.Bools.{never}
 use Rattle.rules.proofs.Rows.{length-lay}
 use Rattle.object_answer.specs.declared.Answer.{Answer}
+use Rattle.object_answer.specs.Meant.{countsIn}
 use Rattle.object_answer.specs.Writes.{Whole}
 use Rattle.object_answer.specs.declared.Written.{Written}
 use Rattle.object_answer.specs.declared.Written.the-variants.{Bytes, Refused}
 use Rattle.list.specs.Call.{Called}
 use Rattle.object.specs.Meaning.{counts}
 use Rattle.object.specs.declared.Counts as code
-use Rattle.list_print.specs.Program.{Wrote, countsIn, tells, Tellable}
+use Rattle.list_print.specs.Program.{Wrote, tells, Tellable}
 
 -- A LISTING THAT FITS
 module _ (c : Counts) (b : Buffers) (len : ℕ) (v : Valid c b) (s : short b ≡ false) (f : length (listing (view c b)) ≤ len) (r : Written) (out : List ℕ) (h : Called c b len r out) where

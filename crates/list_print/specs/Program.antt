@@ -9,8 +9,8 @@ use Rattle.rules.specs.Base.{if_then_else_, refuse, nowhere}
 use Rattle.rules.specs.Buffers.{Buffers, short, Valid, view, lay}
 use Rattle.rules.specs.Listing.{listing, printed, listingProgram}
 use Rattle.object.specs.Meaning.{counts}
-use Rattle.object.specs.declared.Counts.{Counts}
 use Rattle.object_answer.specs.declared.Answer.{Answer}
+use Rattle.object_answer.specs.Meant.{countsIn}
 
 -- the text l stands at the front of a buffer of len bytes, zeros behind it, and r is how long it is
 pub record Wrote (l : List ℕ) (len r : ℕ) (buffer : List ℕ) : Type 0 where
@@ -26,10 +26,6 @@ follows (b ∷ bs) = true
 -- of an input the bytes src were read, and more of them follow or not: what the program prints of it
 abbrev pub Listed : List ℕ → Bool → ℕ → ℕ → List ℕ → Type 0
 Listed src more len r buffer = (rest : List ℕ) → more ≡ follows rest → Wrote (listingProgram (src ++ rest)) len r buffer
-
--- the counts of an accepted object
-abbrev pub countsIn : Answer → Counts
-countsIn a = record { blocks = a .blocks; words = a .words; labels = a .labels; relocations = a .relocations }
 
 -- number 0 is the object that stands in the buffers, any other a refusal
 unfoldable pub tells : Answer → Buffers → List ℕ

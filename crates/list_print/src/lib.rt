@@ -9,7 +9,7 @@ ghost use Rattle.rules.specs.Buffers.{six, short, Valid, view};
 ghost use Rattle.rules.specs.Listing.{decimal, listing, printed, listingProgram};
 ghost use Rattle.object.specs.Meaning.{counts};
 ghost use Rattle.list_lines.specs.Appended.{Appended};
-ghost use Rattle.list_print.specs.Program.{follows, Wrote, countsIn, tells, Tellable};
+ghost use Rattle.list_print.specs.Program.{follows, Wrote, tells, Tellable};
 use base_capacities::BLOCKS;
 use base_capacities::LABELS;
 use base_capacities::NAME_BYTES;
@@ -26,7 +26,7 @@ use object_answer::Written;
 // How many bytes of source and how many words the program has room for.
 pub const SOURCE_BYTES: usize = 65536;
 
-const WORDS: usize = 32768;
+pub const WORDS: usize = 32768;
 
 // The longest listing of an object with so many words.
 pub const LISTING_BYTES: usize = BLOCKS * BLOCK_LINE_BYTES
@@ -90,20 +90,8 @@ fn write_object(
     }
 }
 
-// The counts of an accepted object.
-fn counts_of(answer: Answer) -> Counts
-    ensures { λ r. ⌜ r ≡ countsIn answer ⌝ }
-{
-    Counts {
-        blocks: answer.blocks,
-        words: answer.words,
-        labels: answer.labels,
-        relocations: answer.relocations,
-    }
-}
-
 // What a call has answered: the listing of the object that it left in these buffers, or its refusal.
-fn write_answer(
+pub fn write_answer(
     answer: Answer,
     blocks: &[u16],
     words: &[u16],
@@ -117,7 +105,7 @@ fn write_answer(
     ensures { λ r. ⌜ Wrote (tells answer (six (now (blocks .entry)) (now (words .entry)) (now (marks .entry)) (now (labels .entry)) (now (relocations .entry)) (now (names .entry)))) (length (now (text .entry))) r (now (text .exit)) ⌝ }
 {
     if answer.number == 0 {
-        let c = counts_of(answer);
+        let c = object_answer::counts_of(answer);
         return write_object(c, blocks, words, marks, labels, relocations, names, text);
     }
     write_refused(text, answer.number)

@@ -23,6 +23,10 @@ abbrev pub accepting : Counts → Answer
 accepting c =
     record { number = 0; start = 0; end = 0; start2 = 0; end2 = 0; blocks = c .blocks; words = c .words; labels = c .labels; relocations = c .relocations }
 
+-- the counts in an answer
+abbrev pub countsIn : Answer → Counts
+countsIn a = record { blocks = a .blocks; words = a .words; labels = a .labels; relocations = a .relocations }
+
 -- of a refusal
 abbrev pub refusing : (n a e b f : ℕ) → Answer
 refusing n a e b f = record { number = n; start = a; end = e; start2 = b; end2 = f; blocks = 0; words = 0; labels = 0; relocations = 0 }

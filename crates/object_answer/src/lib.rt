@@ -1,6 +1,6 @@
 // The answers of calls: of one that makes an object, acceptance with the object's counts or a refusal with its two places; of one that writes bytes, how many.
 ghost use mathlib.Core.Path.{_≡_};
-ghost use Rattle.object_answer.specs.Meant.{accepting, refusing};
+ghost use Rattle.object_answer.specs.Meant.{accepting, countsIn, refusing};
 use object::Counts;
 
 // Number 0 is acceptance, with counts; any other is a refusal with its two places, and counts of 0.
@@ -53,5 +53,17 @@ pub fn acceptance(c: Counts) -> Answer
         words: c.words,
         labels: c.labels,
         relocations: c.relocations,
+    }
+}
+
+// The counts in an answer: those of the object that was made.
+pub fn counts_of(answer: Answer) -> Counts
+    ensures { λ r. ⌜ r ≡ countsIn answer ⌝ }
+{
+    Counts {
+        blocks: answer.blocks,
+        words: answer.words,
+        labels: answer.labels,
+        relocations: answer.relocations,
     }
 }

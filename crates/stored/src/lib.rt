@@ -1,17 +1,31 @@
 // A lent object into lent bytes, in its stored form, as a call: 42, 43, then 51 exactly when the bytes do not fit.
+use base_capacities::BLOCKS;
+use base_capacities::LABELS;
+use base_capacities::NAME_BYTES;
+use base_capacities::RELOCATIONS;
+use base_capacities::WORDS;
 use base_refusals::BAD_OBJECT;
 use base_refusals::NO_WRITE_ROOM;
 use base_refusals::SHORT_BUFFER;
 use object::Counts;
 use object_answer::Written;
 use object_check::Checked;
+use stored_fields::BLOCK_BYTES;
 use stored_fields::HEAD_BYTES;
+use stored_fields::NUMBER_BYTES;
 ghost use mathlib.Core.Path.{_≡_};
 ghost use lib.ListN.{length};
 ghost use Rattle.rules.specs.Buffers.{six, Valid, view, zeros};
 ghost use Rattle.rules.specs.Stored.{stored};
 ghost use Rattle.object.specs.Meaning.{counts};
 ghost use Rattle.stored.specs.Call.{WrittenOf, Called};
+
+// The most bytes that a stored object takes: every word a run by itself, full tables, every name of 64 bytes. A relocation names an external, which has no address. Proved of the rule: `no-object-takes-more` on the page of promises.
+pub const STORED_BYTES: usize = BLOCKS * BLOCK_BYTES
+    + WORDS * (HEAD_BYTES + NUMBER_BYTES)
+    + (LABELS + RELOCATIONS) * (HEAD_BYTES + NUMBER_BYTES + NAME_BYTES)
+    - NUMBER_BYTES
+    + HEAD_BYTES;
 
 // How many bytes a valid object has when it is stored.
 fn stored_size(

@@ -1,7 +1,6 @@
 // The marked examples P1 to P10 of document 01, each assembled, or two of them linked, and printed; then some sources explained: an object with everything that a view shows, and refusals in
 // places that are easy to underline wrongly.
 use libc::STDOUT_FILENO;
-use object::Counts;
 use object_answer::Answer;
 use object_answer::Written;
 
@@ -13,16 +12,6 @@ const TEXT: usize = 4096;
 const P2: [u8; 61] = *b".external F\n.orig x3000\nLD R1, P\nJSRR R1\nHALT\nP .fill F\n.end\n";
 
 const P3: [u8; 38] = *b".orig x4000\nF ADD R0, R0, #1\nRET\n.end\n";
-
-// The counts of an accepted object.
-fn counts_of(answer: Answer) -> Counts {
-    Counts {
-        blocks: answer.blocks,
-        words: answer.words,
-        labels: answer.labels,
-        relocations: answer.relocations,
-    }
-}
 
 // The line of a refusal.
 fn print_refused(number: u16) {
@@ -45,7 +34,7 @@ fn print_answer(
         print_refused(answer.number);
         return;
     }
-    let c = counts_of(answer);
+    let c = object_answer::counts_of(answer);
     let mut text = [0u8; TEXT];
     match list::list(
         c,
@@ -134,14 +123,14 @@ fn show_link(name: &[u8], first: &[u8], second: &[u8]) {
         &mut names2,
     );
     let answer = link::link(
-        counts_of(a),
+        object_answer::counts_of(a),
         &blocks1,
         &words1,
         &marks1,
         &labels1,
         &relocations1,
         &names1,
-        counts_of(b),
+        object_answer::counts_of(b),
         &blocks2,
         &words2,
         &marks2,

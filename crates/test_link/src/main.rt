@@ -104,14 +104,14 @@ fn linked(
         return b;
     }
     link::link(
-        test_replay::counts_of(a),
+        object_answer::counts_of(a),
         blocks1,
         words1,
         marks1,
         labels1,
         relocations1,
         names1,
-        test_replay::counts_of(b),
+        object_answer::counts_of(b),
         blocks2,
         words2,
         marks2,

@@ -134,16 +134,6 @@ fn listed_right(
     same_listing(listed, &text, digits)
 }
 
-// The counts of an accepted object.
-pub fn counts_of(answer: Answer) -> Counts {
-    Counts {
-        blocks: answer.blocks,
-        words: answer.words,
-        labels: answer.labels,
-        relocations: answer.relocations,
-    }
-}
-
 // Whether an answer is the one asked for, and where it is acceptance the listing of the object that it left.
 pub fn as_asked(
     got: Answer,
@@ -159,7 +149,7 @@ pub fn as_asked(
     if same_answer(got, asked) {
         if got.number == 0 {
             return listed_right(
-                counts_of(got),
+                object_answer::counts_of(got),
                 blocks,
                 words,
                 marks,

@@ -128,7 +128,7 @@ fn stored_again(
 ) -> bool {
     let mut again = [0u8; BYTES];
     let written = stored::store(
-        test_replay::counts_of(answer),
+        object_answer::counts_of(answer),
         blocks,
         words,
         marks,

@@ -1,0 +1,2 @@
+-- Laws that the proofs of `view_stored` cite. Assumes nothing.
+pub mod Telling
