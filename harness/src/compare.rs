@@ -5,7 +5,7 @@ use crate::random::Random;
 use crate::reader;
 use crate::reference::{reference, Assembled, Notes, Object, Reference, SAME_ADDRESS};
 use crate::valid;
-use lc3::{raw, Refusal, Span};
+use lc3::{raw, Kind, Refusal, Span};
 use lc3_ensemble::parse::lex::{Ident, Token};
 use std::collections::BTreeMap;
 use std::fmt::Write;
@@ -132,9 +132,9 @@ impl Tally {
                 let ([start, end], (sort, value)) = (moved(span), sorted(token));
                 [0, start, end, 0, 0, sort, value, 0, 0]
             }
-            (None, Some(Refusal { number, spans: [span, _] })) => {
+            (None, Some(Refusal { kind, spans: [span, _] })) => {
                 let [start, end] = moved(&span);
-                [u64::from(number), start, end, 0, 0, 0, 0, 0, 0]
+                [u64::from(kind.number()), start, end, 0, 0, 0, 0, 0, 0]
             }
             (None, None) => [0, at.max(src.len()) as u64, at.max(src.len()) as u64, 0, 0, 10, 0, 0, 0],
         };
@@ -143,7 +143,7 @@ impl Tally {
 
     fn first_refusal(&mut self, src: &[u8], expected: &Reference) {
         let there = match &expected.answer {
-            Err(r) if r.number <= 16 => numbers(Err(r)),
+            Err(r) if r.number() <= 16 => numbers(Err(r)),
             _ => [0; 9],
         };
         self.expect(src, "first_refusal", raw::first_refusal(src), there);
@@ -151,7 +151,7 @@ impl Tally {
 
     /// Assembles with buffers of these sizes.
     fn assembled(&mut self, src: &[u8], expected: &Reference, sizes: Sizes) -> raw::Answer {
-        let short = Refusal { number: 42, spans: [0..0, 0..0] };
+        let short = Refusal { kind: Kind::ShortBuffer, spans: [0..0, 0..0] };
         let there = if sizes.short() { Err(short) } else { expected.lent(sizes.words.min(sizes.marks)) };
         let layout = there.as_ref().map_or_else(|_| Layout::default(), |a| Layout::of(&a.object));
         let there = numbers(there.as_ref().map(|_| layout.counts()));
@@ -273,7 +273,7 @@ impl Tally {
         if n > 0 {
             self.text[..n].fill(0xA5);
             let here = raw::list(self.six.lent(counts, Sizes::FULL), &mut self.text[..n - 1]);
-            self.expect(src, "list, one byte short", here, numbers(Err(&Refusal { number: 51, spans: [0..0, 0..0] })));
+            self.expect(src, "list, one byte short", here, numbers(Err(&Refusal { kind: Kind::NoWriteRoom, spans: [0..0, 0..0] })));
             if self.text[..n - 1].iter().any(|b| *b != 0) {
                 self.differs(src, "text after 51".to_string());
             }

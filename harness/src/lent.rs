@@ -117,8 +117,8 @@ impl Layout {
 pub fn numbers(answer: Result<[usize; 4], &Refusal>) -> Answer {
     match answer {
         Ok([b, w, l, r]) => [0, 0, 0, 0, 0, b as u64, w as u64, l as u64, r as u64],
-        Err(Refusal { number, spans: [a, b] }) => {
-            [u64::from(*number), a.start as u64, a.end as u64, b.start as u64, b.end as u64, 0, 0, 0, 0]
+        Err(Refusal { kind, spans: [a, b] }) => {
+            [u64::from(kind.number()), a.start as u64, a.end as u64, b.start as u64, b.end as u64, 0, 0, 0, 0]
         }
     }
 }

@@ -77,9 +77,9 @@ pub fn beside_crate(a: &ObjectFile, b: &ObjectFile, ours: &Result<Object, Refusa
     let crates = guarded(|| ObjectFile::link(a.clone(), b.clone()));
     match (ours, crates) {
         (Ok(o), Some(Ok(file))) if *o == Object::of(&file) => return Some(file),
-        (Err(r), Some(Ok(_))) if r.number == 40 => notes.named.push(LINK_CAPACITY),
-        (Err(r), Some(Err(e))) if r.number == 28 && numbered(&e) == (28, vec![]) => {}
-        (Err(r), Some(Err(e))) if r.number == 25 => beside_names(a, b, r, &e, notes),
+        (Err(r), Some(Ok(_))) if r.number() == 40 => notes.named.push(LINK_CAPACITY),
+        (Err(r), Some(Err(e))) if r.number() == 28 && numbered(&e) == (28, vec![]) => {}
+        (Err(r), Some(Err(e))) if r.number() == 25 => beside_names(a, b, r, &e, notes),
         (ours, crates) => notes.differences.push(format!("link: 01 {ours:?}, crate {crates:?}")),
     }
     None

@@ -3,7 +3,7 @@
 
 use crate::reader::{statements, tokens};
 use crate::refusal::{asm, guarded, numbered, one};
-use lc3::{raw, Refusal, Span};
+use lc3::{raw, Kind, Refusal, Span};
 use lc3_ensemble::asm::{encoding, AsmErr, ObjectFile};
 use lc3_ensemble::ast::asm::{Directive as D, Stmt, StmtKind};
 use lc3_ensemble::ast::{Label, PCOffset};
@@ -153,9 +153,9 @@ fn compare_parser(src: &str, ours: &Result<Vec<Stmt>, Refusal>, notes: &mut Note
             let i = a.iter().zip(&b).take_while(|(a, b)| a == b).count();
             notes.differences.push(format!("statement {i}: 01 {:?}, crate {:?}", a.get(i), b.get(i)));
         }
-        (Err(r), None) if r.number == 7 && src[r.spans[0].clone()].ends_with('\\') => notes.named.push(BACKSLASH),
-        (Err(r), Some(Err(_))) if r.number <= 10 => {}
-        (Err(r), Some(Err(_))) if r.number <= 15 => notes.named.push(READER),
+        (Err(r), None) if r.number() == 7 && src[r.spans[0].clone()].ends_with('\\') => notes.named.push(BACKSLASH),
+        (Err(r), Some(Err(_))) if r.number() <= 10 => {}
+        (Err(r), Some(Err(_))) if r.number() <= 15 => notes.named.push(READER),
         (a, b) => notes.differences.push(format!("01 reads {:?}, the crate's parser {b:?}", a.as_ref().err())),
     }
 }
@@ -167,7 +167,7 @@ fn passes(tokens: Option<Lexed>, stmts: Vec<Stmt>, notes: &mut Notes) -> Referen
         beside_labels(&stmts, e, notes);
     }
     match (ours, crates.map_err(asm)) {
-        (Err(r), _) if r.number == 40 => {
+        (Err(r), _) if r.number() == 40 => {
             notes.named.push(CAPACITY);
             refused(tokens, r)
         }
@@ -244,7 +244,7 @@ impl One {
     fn add(&mut self, s: &Stmt, label: &Label, at: u16, external: bool) -> Result<(), Refusal> {
         let key = label.name.to_ascii_uppercase();
         match self.names.get(&key) {
-            Some((old, start, _)) if *old != at => Err(Refusal { number: 25, spans: [*start..start + key.len(), label.span()] }),
+            Some((old, start, _)) if *old != at => Err(Refusal { kind: Kind::OverlappingLabels, spans: [*start..start + key.len(), label.span()] }),
             Some(_) => Ok(()),
             None if self.names.len() == NAMES => Err(one(40, s.span.clone())),
             None => {
@@ -262,7 +262,7 @@ impl One {
             StmtKind::Directive(D::Blkw(n)) => Ok(n.get().into()),
             StmtKind::Directive(D::External(label)) => self.add(s, label, 0, true).map(|()| 0),
             StmtKind::Directive(D::Orig(at)) => match &self.block {
-                Some((.., orig)) => Err(Refusal { number: 24, spans: [orig.clone(), s.span.clone()] }),
+                Some((.., orig)) => Err(Refusal { kind: Kind::OverlappingOrig, spans: [orig.clone(), s.span.clone()] }),
                 None => {
                     self.block = Some((at.get().into(), 0, s.span.clone()));
                     Ok(0)

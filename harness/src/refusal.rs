@@ -1,12 +1,17 @@
 //! The crate's errors by document 01's numbers.
 
-use lc3::{Refusal, Span};
+use lc3::{Kind, Refusal, Span};
 use lc3_ensemble::asm::{AsmErr, AsmErrKind as K};
 use lc3_ensemble::parse::lex::LexErr;
 use std::cell::Cell;
 
+/// The refusal of a number of document 01.
+pub fn kind(number: u16) -> Kind {
+    Kind::from_number(number).expect("a number of document 01")
+}
+
 pub fn one(number: u16, first: Span) -> Refusal {
-    Refusal { number, spans: [first, 0..0] }
+    Refusal { kind: kind(number), spans: [first, 0..0] }
 }
 
 pub fn lexical(err: LexErr, span: Span) -> Refusal {
@@ -49,7 +54,7 @@ pub fn numbered(e: &AsmErr) -> (u16, Vec<Span>) {
 pub fn asm(e: AsmErr) -> Refusal {
     let (number, spans) = numbered(&e);
     let span = |i: usize| spans.get(i).cloned().unwrap_or(0..0);
-    Refusal { number, spans: [span(0), if number == 20 { 0..0 } else { span(1) }] }
+    Refusal { kind: kind(number), spans: [span(0), if number == 20 { 0..0 } else { span(1) }] }
 }
 
 thread_local! { static SILENT: Cell<bool> = const { Cell::new(false) } }

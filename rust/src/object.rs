@@ -1,18 +1,18 @@
 //! An assembled source, several linked, or one that was stored.
 
-use crate::raw::{self, Answer, Buffers, Lent};
-use crate::Refusal;
+use crate::raw;
+use crate::tables;
+use crate::{Kind, Refusal};
 
-/// Blocks of words, labels and relocations, in buffers of full size.
+/// Blocks of words, labels and relocations: the rows that it has, in the layout of the library's tables.
 #[derive(Clone, PartialEq, Eq)]
 pub struct Object {
-    counts: [usize; 4],
-    blocks: Vec<u16>,
-    words: Vec<u16>,
-    marks: Vec<u8>,
-    labels: Vec<u32>,
-    relocations: Vec<u32>,
-    names: Vec<u8>,
+    pub(crate) blocks: Vec<u16>,
+    pub(crate) words: Vec<u16>,
+    pub(crate) marks: Vec<u8>,
+    pub(crate) labels: Vec<u32>,
+    pub(crate) relocations: Vec<u32>,
+    pub(crate) names: Vec<u8>,
 }
 
 /// What an object says of a name.
@@ -46,50 +46,18 @@ impl<'a> Block<'a> {
 }
 
 /// Assembles a source.
+///
+/// A source has room for as many words as it has bytes at first; where that is too little, as after a `.blkw`, it is assembled once more with room
+/// for all that an object can have.
 pub fn assemble(src: &[u8]) -> Result<Object, Refusal> {
-    let mut o = Object::blank(raw::WORDS);
-    let answer = raw::assemble(src, &mut o.buffers());
-    o.made(&answer)
-}
-
-/// The counts of an answer on an object that `assemble`, `link` or `from_bytes` made, which no lookup and no listing refuses.
-fn counts(answer: Answer) -> [usize; 4] {
-    Refusal::or_counts(&answer).expect("an assembled object is an object")
+    let words = src.len().min(raw::WORDS);
+    match tables::make(words, |to| raw::assemble(src, to)) {
+        Err(refusal) if refusal.kind == Kind::NoRoom && words < raw::WORDS => tables::make(raw::WORDS, |to| raw::assemble(src, to)),
+        made => made,
+    }
 }
 
 impl Object {
-    /// Buffers with nothing in them: tables of full size, and room for so many words.
-    pub(crate) fn blank(words: usize) -> Object {
-        Object {
-            counts: [0; 4],
-            blocks: vec![0; raw::BLOCKS],
-            words: vec![0; words],
-            marks: vec![0; words],
-            labels: vec![0; raw::LABELS],
-            relocations: vec![0; raw::RELOCATIONS],
-            names: vec![0; raw::NAMES],
-        }
-    }
-
-    pub(crate) fn buffers(&mut self) -> Buffers<'_> {
-        Buffers {
-            blocks: &mut self.blocks,
-            words: &mut self.words,
-            marks: &mut self.marks,
-            labels: &mut self.labels,
-            relocations: &mut self.relocations,
-            names: &mut self.names,
-        }
-    }
-
-    /// What a call has made of its buffers.
-    pub(crate) fn made(mut self, answer: &Answer) -> Result<Object, Refusal> {
-        self.counts = Refusal::or_counts(answer)?;
-        self.words.truncate(self.counts[1]);
-        self.marks.truncate(self.counts[1]);
-        Ok(self)
-    }
-
     /// Links two objects: the blocks of both, and each name once. A name that is external in one and defined in the other is defined, and each
     /// word that waits for it is its address.
     ///
@@ -108,9 +76,7 @@ impl Object {
     /// ```
     pub fn link(a_obj: &Object, b_obj: &Object) -> Result<Object, Refusal> {
         let words = a_obj.words.len() + b_obj.words.len();
-        let mut o = Object::blank(words.min(raw::WORDS));
-        let answer = raw::link(a_obj.lent(), b_obj.lent(), &mut o.buffers());
-        o.made(&answer)
+        tables::link(a_obj, b_obj, words.min(raw::WORDS))
     }
 
     /// Links a list of objects, one after another; of none, an object with nothing. The place of 25 is a row of the link of those before.
@@ -132,27 +98,25 @@ impl Object {
     /// assert_eq!(all, lc3::Object::link_all(objects.iter().rev()).unwrap());
     /// ```
     pub fn link_all<'a>(objects: impl IntoIterator<Item = &'a Object>) -> Result<Object, Refusal> {
-        let nothing = Object::blank(0);
-        objects.into_iter().try_fold(nothing, |linked, next| Object::link(&linked, next))
+        let mut objects = objects.into_iter();
+        let first = objects.next().cloned().unwrap_or_else(Object::nothing);
+        objects.try_fold(first, |linked, next| Object::link(&linked, next))
     }
 
-    /// The object as the calls over lent buffers take it.
-    pub fn lent(&self) -> Lent<'_> {
-        Lent {
-            counts: self.counts,
-            blocks: &self.blocks,
-            words: &self.words,
-            marks: &self.marks,
-            labels: &self.labels,
-            relocations: &self.relocations,
-            names: &self.names,
-        }
+    /// The object with nothing.
+    fn nothing() -> Object {
+        Object { blocks: vec![], words: vec![], marks: vec![], labels: vec![], relocations: vec![], names: vec![] }
+    }
+
+    /// Hands the object to a call over lent buffers (`lc3::raw`), in tables of full size.
+    pub fn lend<R>(&self, call: impl FnOnce(raw::Lent) -> R) -> R {
+        tables::lend(self, call)
     }
 
     /// The blocks, by start.
     pub fn blocks(&self) -> impl Iterator<Item = Block<'_>> {
         let mut at = 0;
-        self.blocks.chunks(2).take(self.counts[0]).map(move |row| {
+        self.blocks.chunks(2).map(move |row| {
             let first = at;
             at += usize::from(row[1]);
             Block { start: row[0], words: &self.words[first..at], marks: &self.marks[first..at] }
@@ -176,7 +140,7 @@ impl Object {
 
     /// The names in order, each with what it stands for.
     pub fn labels(&self) -> impl Iterator<Item = (&str, Symbol)> {
-        self.labels.chunks(4).take(self.counts[2]).enumerate().map(|(row, fields)| {
+        self.labels.chunks(4).enumerate().map(|(row, fields)| {
             let symbol = if fields[1] == 1 { Symbol::External } else { Symbol::Defined(fields[0] as u16) };
             (self.name(row), symbol)
         })
@@ -184,31 +148,41 @@ impl Object {
 
     /// The addresses of words that wait for an external, in order, each with its name.
     pub fn relocations(&self) -> impl Iterator<Item = (u16, &str)> {
-        self.relocations.chunks(2).take(self.counts[3]).map(|row| (row[0] as u16, self.name(row[1] as usize)))
+        self.relocations.chunks(2).map(|row| (row[0] as u16, self.name(row[1] as usize)))
+    }
+
+    /// The label row of a name in upper case, by halving: rows stand in the order of their names.
+    fn row(&self, name: &str) -> Option<usize> {
+        let (mut low, mut high) = (0, self.labels.len() / 4);
+        while low < high {
+            let middle = low + (high - low) / 2;
+            match self.name(middle).cmp(name) {
+                std::cmp::Ordering::Less => low = middle + 1,
+                std::cmp::Ordering::Greater => high = middle,
+                std::cmp::Ordering::Equal => return Some(middle),
+            }
+        }
+        None
     }
 
     /// What the object says of a name, in any case of letters.
     pub fn lookup_label(&self, label: &str) -> Option<Symbol> {
-        match counts(raw::lookup_label(self.lent(), label.as_bytes())) {
-            [0, ..] => None,
-            [_, 1, ..] => Some(Symbol::External),
-            [_, _, address, _] => Some(Symbol::Defined(address as u16)),
-        }
+        let row = self.row(&label.to_ascii_uppercase())?;
+        let [address, external] = [self.labels[4 * row], self.labels[4 * row + 1]];
+        Some(if external == 1 { Symbol::External } else { Symbol::Defined(address as u16) })
     }
 
     /// The smallest name at an address; an external counts at 0.
     pub fn rev_lookup_label(&self, addr: u16) -> Option<&str> {
-        match counts(raw::rev_lookup_label(self.lent(), addr.into())) {
-            [0, ..] => None,
-            [_, row, ..] => Some(self.name(row)),
-        }
+        self.labels.chunks(4).position(|row| row[0] == u32::from(addr)).map(|row| self.name(row))
     }
 
     /// The listing: blocks with their words, labels, relocations, a line each.
     pub fn list(&self) -> String {
-        let [blocks, words, labels, relocations] = self.counts;
-        let mut text = vec![0; 16 * blocks + 10 * words + 76 * labels + 74 * relocations];
-        let [size, ..] = counts(raw::list(self.lent(), &mut text));
+        let rows = 16 * self.blocks.len() / 2 + 10 * self.words.len() + 76 * self.labels.len() / 4 + 74 * self.relocations.len() / 2;
+        let mut text = vec![0; rows];
+        let answer = self.lend(|o| raw::list(o, &mut text));
+        let [size, ..] = Refusal::or_counts(&answer).expect("an object that was made is an object");
         text.truncate(size);
         String::from_utf8(text).expect("a listing is ASCII")
     }
@@ -216,7 +190,8 @@ impl Object {
 
 impl std::fmt::Debug for Object {
     fn fmt(&self, f: &mut std::fmt::Formatter<'_>) -> std::fmt::Result {
-        let [blocks, words, labels, relocations] = self.counts;
+        let (blocks, words) = (self.blocks.len() / 2, self.words.len());
+        let (labels, relocations) = (self.labels.len() / 4, self.relocations.len() / 2);
         write!(f, "Object {{ blocks: {blocks}, words: {words}, labels: {labels}, relocations: {relocations} }}")
     }
 }

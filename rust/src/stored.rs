@@ -1,7 +1,9 @@
 //! Stored objects: to bytes and back.
 
 use crate::object::Object;
+use crate::Kind;
 use crate::raw;
+use crate::tables;
 
 /// Why bytes are no stored object (50): the first field that breaks the form.
 #[derive(Debug, Clone, PartialEq, Eq)]
@@ -45,7 +47,8 @@ impl BadField {
             Some((1, _)) => "a block with no words, not above the last, past xFE00, before all words of the last, after a label, or one too many",
             Some((2, _)) => "set words where there are none, half a one, above 16,384, more than their block lacks, or behind others that are not full",
             Some((3, _)) => "unset words where there are none, more than their block lacks, or behind others",
-            Some((4 | 5, _)) => "a label with no good name, not above the last, before all words of a block, after a relocation, or one too many",
+            Some((5, _)) => "an external with no good name, not above the last, before all words of a block, after a relocation, or one too many",
+            Some((4, _)) => "a label with no good name, not above the last, before all words of a block, after a relocation, or one too many",
             Some((6, _)) => "a relocation at no set word 0, of no external, not above the last, or one too many",
             Some(_) => "no field has this tag",
         };
@@ -55,7 +58,7 @@ impl BadField {
 
 impl std::fmt::Display for BadField {
     fn fmt(&self, f: &mut std::fmt::Formatter<'_>) -> std::fmt::Result {
-        write!(f, "BadField (50) at {}: {}", self.offset, self.wrong)
+        write!(f, "REFUSED {}, at {}: {}", Kind::BadField, self.offset, self.wrong)
     }
 }
 impl std::error::Error for BadField {}
@@ -70,10 +73,11 @@ impl Object {
     /// assert_eq!(lc3::Object::from_bytes(&bytes).unwrap(), object);
     /// ```
     pub fn to_bytes(&self) -> Vec<u8> {
-        let [blocks, words, labels, relocations] = self.lent().counts;
+        let (blocks, words) = (self.blocks.len() / 2, self.words.len());
+        let (labels, relocations) = (self.labels.len() / 4, self.relocations.len() / 2);
         let name = 3 + 2 + 64;
         let mut bytes = vec![0; 7 * blocks + 5 * words + name * (labels + relocations) + 3];
-        let answer = raw::store(self.lent(), &mut bytes);
+        let answer = self.lend(|o| raw::store(o, &mut bytes));
         assert_eq!(answer[0], 0, "an object is stored where there is room for the most that it can take");
         bytes.truncate(answer[5] as usize);
         bytes
@@ -90,8 +94,6 @@ impl Object {
     /// assert!(refused.wrong.starts_with("a label with no good name"));
     /// ```
     pub fn from_bytes(bytes: &[u8]) -> Result<Object, BadField> {
-        let mut o = Object::blank(raw::WORDS);
-        let answer = raw::load(bytes, &mut o.buffers());
-        o.made(&answer).map_err(|refusal| BadField::at(bytes, refusal.spans[0].start))
+        tables::make(raw::WORDS, |to| raw::load(bytes, to)).map_err(|refusal| BadField::at(bytes, refusal.spans[0].start))
     }
 }

@@ -70,3 +70,33 @@ pub fn tokens(src: &[u8]) -> impl Iterator<Item = Result<(Token, Span), Refusal>
 pub fn first_refusal(src: &[u8]) -> Option<Refusal> {
     Refusal::or_counts(&raw::first_refusal(src)).err()
 }
+
+/// The characters of a string token: what stands between its quotes, with `\\n \\r \\t \\\\ \\0 \\"` as one character each; before any other character
+/// the backslash stays.
+///
+/// ```
+/// let source = br#".stringz "a\tb\q""#;
+/// let string = lc3::tokens(source).map(Result::unwrap).find(|(token, _)| *token == lc3::Token::String).unwrap();
+/// assert_eq!(lc3::string_text(&source[string.1]), b"a\tb\\q");
+/// ```
+pub fn string_text(token: &[u8]) -> Vec<u8> {
+    let inner = token.strip_prefix(b"\"").unwrap_or(token);
+    let mut rest = inner.strip_suffix(b"\"").unwrap_or(inner).iter().copied().peekable();
+    let mut text = Vec::new();
+    while let Some(byte) = rest.next() {
+        let escaped = match (byte, rest.peek()) {
+            (b'\\', Some(b'n')) => Some(b'\n'),
+            (b'\\', Some(b'r')) => Some(b'\r'),
+            (b'\\', Some(b't')) => Some(b'\t'),
+            (b'\\', Some(b'0')) => Some(0),
+            (b'\\', Some(b'\\')) => Some(b'\\'),
+            (b'\\', Some(b'"')) => Some(b'"'),
+            _ => None,
+        };
+        text.push(escaped.unwrap_or(byte));
+        if escaped.is_some() {
+            rest.next();
+        }
+    }
+    text
+}

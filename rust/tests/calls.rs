@@ -1,6 +1,7 @@
 //! Each function of the crate on the marked examples of document 01.
 
-use lc3::{assemble, disassemble_line, first_refusal, next_token, raw, tokens, Line, Object, Refusal, Symbol, Token};
+use lc3::{assemble, disassemble_line, first_refusal, line_column, next_token, raw, string_text, tokens};
+use lc3::{Kind, Line, Object, Refusal, Symbol, Token};
 
 const P1: &[u8] = b".orig x3000\nSTART LEA R0, MSG\nPUTS\nHALT\nMSG .stringz \"Hi\"\n.end\n";
 const P1_LISTING: &str = "BLOCK 3000 0006\n3000 E002\n3001 F022\n3002 F025\n3003 0048\n3004 0069\n3005 0000\n\
@@ -11,7 +12,7 @@ const P2_P3_LISTING: &str = "BLOCK 3000 0004\n3000 2202\n3001 4040\n3002 F025\n3
     LABEL 4000 F\nLABEL 3003 P\n";
 
 fn number(src: &str) -> u16 {
-    assemble(src.as_bytes()).map_or_else(|r| r.number, |_| 0)
+    assemble(src.as_bytes()).map_or_else(|r| r.number(), |_| 0)
 }
 
 #[test]
@@ -47,10 +48,10 @@ fn refusals() {
     assert_eq!(number(".external F\n.orig 0\nLD R0, F\n.end"), 30);
     assert_eq!(number(".fill -32769"), 2);
     let r = assemble(b".orig 0\nA HALT\nA HALT\n.end").unwrap_err();
-    assert_eq!(r, Refusal { number: 25, spans: [8..9, 15..16] });
-    assert_eq!(r.to_string(), "OverlappingLabels (25) at 8..9 and 15..16");
-    assert_eq!(assemble(b".orig 0\n.blkw 65024\n.end\n.orig 0\nHALT\n.end").unwrap_err().to_string(), "NoRoom (41)");
-    assert_eq!(first_refusal(b"ADD R0, R0").unwrap().to_string(), "BadStatement (13) at 10..10");
+    assert_eq!(r, Refusal { kind: Kind::OverlappingLabels, spans: [8..9, 15..16] });
+    assert_eq!(r.to_string(), "REFUSED 25 OverlappingLabels: one label at two addresses, at 8..9 and 15..16");
+    assert_eq!(assemble(b".orig 0\n.blkw 65024\n.end\n.orig 0\nHALT\n.end").unwrap_err().to_string(), "REFUSED 41 NoRoom: more words than there is room for");
+    assert_eq!(first_refusal(b"ADD R0, R0").unwrap().to_string(), "REFUSED 13 BadStatement: this cannot stand here, at 10..10");
     assert_eq!(first_refusal(b"A HALT"), None);
     assert_eq!(first_refusal(&[b';'; 262_145]).unwrap().name(), "SourceTooLong");
 }
@@ -64,7 +65,7 @@ fn linked(a: &[u8], b: &[u8]) -> Result<Object, Refusal> {
 fn linking() {
     assert_eq!(linked(P2, P3).unwrap().list(), P2_P3_LISTING);
     assert_eq!(linked(P3, P2).unwrap().list(), P2_P3_LISTING);
-    assert_eq!(linked(P3, P3).unwrap_err(), Refusal { number: 28, spans: [0..0, 0..0] });
+    assert_eq!(linked(P3, P3).unwrap_err(), Refusal { kind: Kind::OverlappingBlocks, spans: [0..0, 0..0] });
     assert_eq!(linked(b"", P2).unwrap(), assemble(P2).unwrap());
     let open = linked(P2, b".external F\n.orig 0\n.fill F\n.end").unwrap();
     assert_eq!(open.relocations().collect::<Vec<_>>(), [(0, "F"), (0x3003, "F")]);
@@ -89,12 +90,28 @@ fn a_list_linked() {
     assert_eq!(Object::link_all([]).unwrap(), object(""));
     assert_eq!(Object::link_all([a]).unwrap(), *a);
     let blocks = |at: usize| object(&(at..at + 33).map(|i| format!(".orig {}\nHALT\n.end\n", 2 * i)).collect::<String>());
-    assert_eq!(Object::link_all(&[blocks(0), blocks(33)]).unwrap_err().to_string(), "TableFull (40)");
+    assert_eq!(Object::link_all(&[blocks(0), blocks(33)]).unwrap_err().kind, Kind::TableFull);
+}
+
+/// An object in tables of its own, as a caller of `raw` lends one.
+struct Full(Vec<u16>, Vec<u16>, Vec<u8>, Vec<u32>, Vec<u32>, Vec<u8>, [usize; 4]);
+
+impl Full {
+    fn of(object: &Object) -> Full {
+        object.lend(|o| {
+            let (blocks, words, marks) = (o.blocks.to_vec(), o.words.to_vec(), o.marks.to_vec());
+            Full(blocks, words, marks, o.labels.to_vec(), o.relocations.to_vec(), o.names.to_vec(), o.counts)
+        })
+    }
+    fn lent(&self) -> raw::Lent<'_> {
+        let Full(blocks, words, marks, labels, relocations, names, counts) = self;
+        raw::Lent { counts: *counts, blocks, words, marks, labels, relocations, names }
+    }
 }
 
 #[test]
 fn linking_in_lent_buffers() {
-    let (a, b) = (assemble(P2).unwrap(), assemble(P3).unwrap());
+    let (a, b) = (Full::of(&assemble(P2).unwrap()), Full::of(&assemble(P3).unwrap()));
     let number = |words: usize, names: usize, a: raw::Lent| {
         let (mut blocks, mut labels, mut relocations) = ([7; raw::BLOCKS], [7; raw::LABELS], [7; raw::RELOCATIONS]);
         let (mut words, mut marks, mut names) = (vec![7; words], vec![7; words], vec![7; names]);
@@ -111,6 +128,54 @@ fn linking_in_lent_buffers() {
     bad.counts[3] = 2;
     assert_eq!(number(6, raw::NAMES, bad), 43);
     assert_eq!(number(6, raw::NAMES - 1, bad), 42);
+}
+
+/// What the library answers of a name, and of an address.
+fn asked(o: &Object, name: &str, address: u16) -> (Option<Symbol>, Option<String>) {
+    o.lend(|lent| {
+        let [_, .., found, external, at, _] = raw::lookup_label(lent, name.as_bytes());
+        let symbol = if external == 1 { Symbol::External } else { Symbol::Defined(at as u16) };
+        let [_, .., is_there, _, start, size] = raw::rev_lookup_label(lent, address.into());
+        let bytes = &lent.names[start as usize..(start + size) as usize];
+        ((found == 1).then_some(symbol), (is_there == 1).then(|| String::from_utf8(bytes.to_vec()).unwrap()))
+    })
+}
+
+#[test]
+fn lookups_as_the_library_answers() {
+    let source = ".external Z\n.orig 0\nB A .fill 1\nLONGER .fill Z\n.end\n.orig x3000\nC .blkw 3\nD .end\n";
+    for o in [assemble(source.as_bytes()).unwrap(), assemble(P2).unwrap(), assemble(b"").unwrap()] {
+        for name in ["a", "A", "B", "longer", "LONGE", "LONGERR", "Z", "c", "D", "", "F", "é"] {
+            for address in [0, 1, 2, 0x3000, 0x3002, 0x3003] {
+                let here = (o.lookup_label(name), o.rev_lookup_label(address).map(str::to_string));
+                assert_eq!(here, asked(&o, name, address));
+            }
+        }
+    }
+}
+
+#[test]
+fn objects_are_small() {
+    let o = assemble(P1).unwrap();
+    let bytes = o.to_bytes();
+    assert_eq!(o.lend(|lent| lent.counts), [1, 6, 2, 0]);
+    assert!(bytes.len() < 64);
+    let wide = assemble(b".orig 0\n.blkw 60000\nA .fill 1\n.end").unwrap();
+    assert_eq!((wide.words().len(), wide.lookup_label("A")), (60001, Some(Symbol::Defined(60000))));
+}
+
+#[test]
+fn places_and_texts() {
+    let src = b"A\n\tB\r\nC";
+    assert_eq!([0, 1, 2, 3, 5, 6, 7, 99].map(|at| line_column(src, at)), [(1, 1), (1, 2), (2, 1), (2, 2), (2, 4), (3, 1), (3, 2), (3, 2)]);
+    assert_eq!(string_text(br#""a\\\"\n\0\x""#), b"a\\\"\n\0\\x");
+    let object = assemble(br#".orig 0
+        .stringz "q\\\"\t\z"
+        .end"#).unwrap();
+    let text: Vec<u16> = string_text(br#""q\\\"\t\z""#).into_iter().map(u16::from).chain([0]).collect();
+    assert_eq!(object.words(), text);
+    assert!(Kind::ALL.iter().all(|kind| Kind::from_number(kind.number()) == Some(*kind)));
+    assert_eq!((Kind::from_number(0), Kind::from_number(17)), (None, None));
 }
 
 #[test]
@@ -163,10 +228,11 @@ fn stored_refusals() {
     assert_eq!(wrong(&[1, 0, 4, 0, 0, 0, 0]), (0, "a block with".to_string()));
     assert_eq!(wrong(&[1, 0, 4, 0, 0, 0, 1, 3, 0, 2, 0, 2]), (7, "unset words where".to_string()));
     assert_eq!(wrong(&[1, 0, 4, 0, 0, 0, 1, 2, 0, 0]), (7, "set words where".to_string()));
-    assert_eq!(wrong(&[5, 0, 1, b'a']), (0, "a label with".to_string()));
+    assert_eq!(wrong(&[5, 0, 1, b'a']), (0, "an external with".to_string()));
+    assert_eq!(wrong(&[4, 0, 3, 0, 0, b'a']), (0, "a label with".to_string()));
     assert_eq!(wrong(&[6, 0, 3, 0, 0, b'A']), (0, "a relocation at".to_string()));
     assert_eq!(wrong(&[1, 0, 4, 0, 0, 0, 1, 0, 0, 0]), (7, "the end with".to_string()));
     assert_eq!(wrong(&[0, 0, 0, 0, 0, 0]), (3, "bytes after the".to_string()));
     let refused = Object::from_bytes(&[0]).unwrap_err();
-    assert_eq!(refused.to_string(), "BadField (50) at 0: a field that is cut short");
+    assert_eq!(refused.to_string(), "REFUSED 50 BadField: the bytes are no stored object from this field on, at 0: a field that is cut short");
 }
