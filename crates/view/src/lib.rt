@@ -1,4 +1,5 @@
 // An assembled source printed on standard output for a person: the object word by word, or the refusal with its places underlined.
+use libc::STDOUT_FILENO;
 use object::Counts;
 use object_answer::Answer;
 
@@ -15,9 +16,26 @@ fn counts_of(answer: Answer) -> Counts {
     }
 }
 
+// Room for a refusal's text: two places, each with a window of its line.
+const REFUSAL_BYTES: usize = 4096;
+
+// What a source is called that has no file.
+const SOURCE_NAME: [u8; 6] = *b"source";
+
+// Writes a text that ends here.
+fn print_text(text: &[u8], end: usize) {
+    if end <= text.len() {
+        io::write_all(STDOUT_FILENO, &text[0..end]);
+    }
+}
+
 // A refusal of this source.
 fn print_refused(src: &[u8], answer: Answer) {
-    view_refusal::print_refusal(
+    let mut text = [0u8; REFUSAL_BYTES];
+    let end = view_refusal::put_refusal(
+        &mut text,
+        0,
+        &SOURCE_NAME,
         src,
         answer.number,
         answer.start,
@@ -25,11 +43,19 @@ fn print_refused(src: &[u8], answer: Answer) {
         answer.start2,
         answer.end2,
     );
+    print_text(&text, end);
 }
 
 // A source that the program does not hold.
 pub fn print_too_long() {
-    view_refusal::print_placeless(base_refusals::SOURCE_TOO_LONG);
+    let mut text = [0u8; REFUSAL_BYTES];
+    let end = view_refusal::put_placeless(
+        &mut text,
+        0,
+        &SOURCE_NAME,
+        base_refusals::SOURCE_TOO_LONG,
+    );
+    print_text(&text, end);
 }
 
 // A source in the program's words; whether it is accepted.

@@ -1,16 +1,17 @@
 -- Lines and columns, one byte on. Assumes nothing.
-use Prim.Native.Nat.{ℕ, _+_, _<_, _≤_}
-use mathlib.Core.Path.{_≡_, sym, _∙_, ap}
-use mathlib.Core.Bool.{Bool, true, false}
-use mathlib.Core.List.{List}
+use Prim.Native.Nat.{ℕ, _+_, _-_, _<_, _≤_}
+use mathlib.Core.Path.{_≡_, refl, sym, _∙_, ap}
+use mathlib.Core.Bool.{Bool, true, false, _&&_, _||_}
+use mathlib.Core.List.{List, [], _∷_}
 use lib.Dec.{eqb}
 use native.Mathlib.Omega.{arith}
-use lib.ListN.{length, getD}
+use lib.ListN.{length, getD, take}
 use borrow.Author.Tests.{eq-eqb, ne-eqb}
-use Rattle.rules.specs.Base.{if_then_else_}
+use Rattle.rules.specs.Base.{if_then_else_, is}
+use Rattle.rules.specs.Tokens.{begins, line}
 use Rattle.base_text.specs.Runs.{from}
-use Rattle.base_text.proofs.Rest.{from-start, from-step, from-end}
-use Rattle.view_places.specs.Lines.{feed, feeds, moved, sinceFrom, since}
+use Rattle.base_text.proofs.Rest.{from-start, from-step, from-end, begins-at}
+use Rattle.view_places.specs.Lines.{feed, feeds, moved, sinceFrom, since, lineStart, lineStop, endsLine}
 
 module _ (b : ℕ) where
   pub feed-ten : b ≡ 10 → 1 ≡ feed b
@@ -87,3 +88,37 @@ feeds-start s = omega (arith, ap feeds (from-start s))
 pub since-start : (s : List ℕ) → sinceFrom 0 (from s 0) ≡ since s
 unfolding since
 since-start s = ap (sinceFrom 0) (from-start s)
+
+-- a line's end, one byte on: a line that ends here is empty, any other goes on
+abbrev cons-unless : Bool → ℕ → List ℕ → List ℕ
+cons-unless b c l = elim b [ true ↦ [] | false ↦ c ∷ l ]
+
+module _ (s : List ℕ) (i : ℕ) where
+  line-at : {t : Bool} → i < length s → t ≡ endsLine s i → line (from s i) ≡ cons-unless t (getD s i 0) (line (from s (i + 1)))
+  unfolding line endsLine
+  line-at h e =
+      rw (from-step s i h, e)
+      (ap (λ (b : Bool). cons-unless (eqb (getD s i 0) 10 || (eqb (getD s i 0) 13 && b)) (getD s i 0) (line (from s (i + 1)))) (begins-at (is "\n") refl s (i + 1)))
+
+  pub stop-again : {t : Bool} {x : ℕ} → i < length s → t ≡ endsLine s i → t ≡ false → lineStop s i ≡ x → lineStop s (i + 1) ≡ x
+  unfolding lineStop
+  stop-again h e f g = omega (arith, g, ap length (rw f at (line-at h e)))
+
+  pub stop-here : {t : Bool} {x : ℕ} → i < length s → t ≡ endsLine s i → t ≡ true → lineStop s i ≡ x → i ≡ x
+  unfolding lineStop
+  stop-here h e f g = omega (arith, g, ap length (rw f at (line-at h e)))
+
+  pub stop-over : {x : ℕ} → length s ≤ i → lineStop s i ≡ x → i ≡ x
+  unfolding lineStop line
+  stop-over h g = omega (arith, g, ap (λ (l : List ℕ). length (line l)) (from-end s i h))
+
+-- a line's beginning, by the part before a place
+pub start-is : (s : List ℕ) (p : ℕ) {m : ℕ} → m ≡ since (take (p - 0) s) → p - m ≡ lineStart s p
+unfolding lineStart
+start-is s p e = let z : p - 0 ≡ p = omega arith in rw e (rw z refl)
+
+-- no more line feeds than bytes
+pub feeds-few : (s : List ℕ) → feeds s ≤ length s
+unfolding feeds
+feeds-few [] = omega arith
+feeds-few (b ∷ s) = let h = feeds-few s in omega (arith, feed-small b, h)

@@ -1,9 +1,13 @@
 -- Where a place stands for a person, by the bytes before it: the line is one more than the line feeds among them, the column one more than
 -- the bytes behind the last of these. Assumes nothing.
-use Prim.Native.Nat.{ℕ, _+_}
+use Prim.Native.Nat.{ℕ, _+_, _-_}
+use mathlib.Core.Bool.{Bool, _&&_, _||_}
 use mathlib.Core.List.{List, [], _∷_}
 use lib.Dec.{eqb}
+use lib.ListN.{length, getD, take}
 use Rattle.rules.specs.Base.{if_then_else_}
+use Rattle.rules.specs.Tokens.{line}
+use Rattle.base_text.specs.Runs.{from}
 
 -- one for a line feed
 unfoldable pub feed : ℕ → ℕ
@@ -25,3 +29,15 @@ sinceFrom k (b ∷ bs) = sinceFrom (moved k b) bs
 
 unfoldable pub since : List ℕ → ℕ
 since s = sinceFrom 0 s
+
+-- where the line of a place begins
+unfoldable pub lineStart : List ℕ → ℕ → ℕ
+lineStart s at = at - since (take at s)
+
+-- where the line ends that begins at a place: before LF or CR LF, or with the source
+unfoldable pub lineStop : List ℕ → ℕ → ℕ
+lineStop s first = first + length (line (from s first))
+
+-- LF or CR LF stands here
+unfoldable pub endsLine : List ℕ → ℕ → Bool
+endsLine s i = eqb (getD s i 0) 10 || (eqb (getD s i 0) 13 && eqb (getD s (i + 1) 0) 10)

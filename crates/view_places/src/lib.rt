@@ -2,7 +2,7 @@
 ghost use mathlib.Core.Path.{_≡_};
 ghost use Prim.Native.Nat.{_≤_, _<_};
 ghost use lib.ListN.{length};
-ghost use Rattle.view_places.specs.Lines.{feed, feeds, moved, since};
+ghost use Rattle.view_places.specs.Lines.{feed, feeds, moved, since, lineStart, endsLine, lineStop};
 ghost use Rattle.view_places.specs.Names.{nameRow};
 
 // One for a line feed, none for another byte.
@@ -51,6 +51,39 @@ pub fn bytes_since(before: &[u8]) -> usize
         i += 1;
     }
     k
+}
+
+// Where the line of a place begins.
+pub fn line_start(src: &[u8], place: usize) -> usize
+    requires { ⌜ place ≤ length (now src) ⌝ }
+    ensures { λ r. ⌜ (r ≡ lineStart (now (src .entry)) place) × (r ≤ place) ⌝ }
+{
+    place - bytes_since(&src[0..place])
+}
+
+// A line ends before this place: LF or CR LF stands there.
+fn ends_line(src: &[u8], i: usize) -> bool
+    requires { ⌜ i < length (now src) ⌝ }
+    ensures { λ r. ⌜ r ≡ endsLine (now (src .entry)) i ⌝ }
+{
+    let b = base_text::byte_at(src, i);
+    let next = base_text::byte_at(src, i + 1);
+    (b == b'\n') | ((b == b'\r') & (next == b'\n'))
+}
+
+// Where the line ends that begins here: before LF or CR LF, or with the source.
+pub fn line_stop(src: &[u8], first: usize) -> usize
+    requires { ⌜ first ≤ length (now src) ⌝ }
+    ensures { λ r. ⌜ (r ≡ lineStop (now (src .entry)) first) × (r ≤ length (now (src .entry))) ⌝ }
+{
+    let mut i = first;
+    while i < src.len() {
+        if ends_line(src, i) {
+            return i;
+        }
+        i += 1;
+    }
+    i
 }
 
 // How wide the names are, and how many numbers have a row.

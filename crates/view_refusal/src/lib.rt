@@ -1,324 +1,244 @@
-// A refusal as a person sees it on a terminal: its number and name, what it means in this program, and each of its places with the line underlined.
+// A refusal as a person reads it, as text in a lent buffer: the file, the line and the column, its number and name, what it means, and each of its places underlined.
+ghost use mathlib.Core.Path.{_≡_};
+ghost use Prim.Native.Nat.{_≤_};
+ghost use lib.ListN.{length};
+ghost use Rattle.rules.specs.Answers.{refusalName};
+ghost use Rattle.rules.specs.Tokens.{while};
+ghost use Rattle.base_text.specs.Runs.{inClass};
+ghost use Rattle.view_text.specs.Put.{Put};
+ghost use Rattle.view_refusal.specs.Meanings.{meaning, meaningRow};
+ghost use Rattle.view_refusal.specs.Refusals.{title, positionText, endWords, headingText, placelessText, placed, secondText, placedText, refusalText};
 use base_casts::long;
 use base_casts::long16;
 use base_casts::wide16;
 use base_text::Class;
-use libc::STDOUT_FILENO;
-use std::num::wrapping_add_usize;
-use view_text::print_line;
 use view_text::put;
 use view_text::put_byte;
 use view_text::put_decimal;
 
-// Room for a source's line, and for a line above one.
-const LINE_BYTES: usize = 256;
+// How wide the meanings are, the line feed behind each with them, and how many numbers have a row.
+const MEANING_WIDTH: usize = 67;
 
-const HEADING_BYTES: usize = 128;
+const NUMBERS: usize = 52;
 
-// A part of a line that is shown, from one place of the source up to another.
-struct Window {
-    from: usize,
-    to: usize,
+// What refusals mean in this program by their numbers: each up to its line feed, filled up with spaces; a number that is none has no meaning.
+const MEANINGS: [[u8; MEANING_WIDTH]; NUMBERS] = [
+    *b"\n                                                                  ",
+    *b"a number above 65535\n                                              ",
+    *b"a number below -32768\n                                             ",
+    *b"a digit that is not hexadecimal\n                                   ",
+    *b"a digit that is not decimal\n                                       ",
+    *b"a hexadecimal number without digits\n                               ",
+    *b"a decimal number without digits\n                                   ",
+    *b"a string that is not closed on its line\n                           ",
+    *b"a string of more than 65,534 characters\n                           ",
+    *b"no such register, they are R0 to R7\n                               ",
+    *b"a character that begins no token\n                                  ",
+    *b"the source is longer than this program takes\n                      ",
+    *b"a byte that is not ASCII\n                                          ",
+    *b"this cannot stand here\n                                            ",
+    *b"the operand that is due here is missing or of another kind\n        ",
+    *b"a number that does not fit this operand\n                           ",
+    *b"a name of more than 64 characters\n                                 ",
+    *b"\n                                                                  ",
+    *b"\n                                                                  ",
+    *b"\n                                                                  ",
+    *b"a label outside .orig and .end has no address\n                     ",
+    *b"a statement outside .orig and .end has no address\n                 ",
+    *b"an .orig without its .end\n                                         ",
+    *b"an .end without its .orig\n                                         ",
+    *b"an .orig inside a block\n                                           ",
+    *b"one label at two addresses\n                                        ",
+    *b"the block runs past xFFFF\n                                         ",
+    *b"the block runs into the addresses of devices, xFE00 and above\n     ",
+    *b"two blocks share an address\n                                       ",
+    *b"the label is too far away for this instruction\n                    ",
+    *b"an external label has no address here, so there is no offset to it\n",
+    *b"no label has this name\n                                            ",
+    *b"\n                                                                  ",
+    *b"\n                                                                  ",
+    *b"\n                                                                  ",
+    *b"\n                                                                  ",
+    *b"\n                                                                  ",
+    *b"\n                                                                  ",
+    *b"\n                                                                  ",
+    *b"\n                                                                  ",
+    *b"more than 1,024 labels, 1,024 relocations or 64 blocks\n            ",
+    *b"more words than there is room for\n                                 ",
+    *b"a lent buffer is too short\n                                        ",
+    *b"the lent buffers hold no object\n                                   ",
+    *b"\n                                                                  ",
+    *b"\n                                                                  ",
+    *b"\n                                                                  ",
+    *b"\n                                                                  ",
+    *b"\n                                                                  ",
+    *b"\n                                                                  ",
+    *b"the bytes are no stored object from this field on\n                 ",
+    *b"the bytes do not fit\n                                              ",
+];
+
+// What a refusal means, as a row.
+fn meaning_row(number: usize) -> [u8; MEANING_WIDTH]
+    ensures { λ r. ⌜ r ≡ meaningRow number ⌝ }
+{
+    if number < NUMBERS {
+        return MEANINGS[number];
+    }
+    MEANINGS[0]
 }
 
-fn least(a: usize, b: usize) -> usize {
-    if a < b {
-        return a;
-    }
-    b
+// The run of a class that a row begins with.
+fn put_run(out: &mut [u8], at: usize, row: &[u8], class: Class) -> usize
+    ensures { λ r. ⌜ Put (now (out .entry)) (now (out .exit)) at r (while (inClass class) (now (row .entry))) ⌝ }
+{
+    let end = base_text::run_end(row, 0, class);
+    put(out, at, &row[0..end])
 }
 
-fn most(a: usize, b: usize) -> usize {
-    if a < b {
-        return b;
-    }
-    a
+// A refusal's name in document 01's table.
+fn put_name(out: &mut [u8], at: usize, number: u16) -> usize
+    ensures { λ r. ⌜ Put (now (out .entry)) (now (out .exit)) at r (refusalName number) ⌝ }
+{
+    let row = view_places::refusal_name(wide16(number));
+    put_run(out, at, &row, Class::Word)
 }
 
-// How far b stands behind a; 0 where it does not.
-fn distance(a: usize, b: usize) -> usize {
-    if b < a {
-        return 0;
-    }
-    b - a
+// What it means.
+fn put_meaning(out: &mut [u8], at: usize, number: u16) -> usize
+    ensures { λ r. ⌜ Put (now (out .entry)) (now (out .exit)) at r (meaning number) ⌝ }
+{
+    let row = meaning_row(wide16(number));
+    put_run(out, at, &row, Class::Line)
 }
 
-// The byte behind the last character that is shown.
-const DEL: u8 = 127;
-
-// A byte as it is shown: in one column, but for a tab.
-fn shown(b: u8) -> u8 {
-    if b == b'\t' {
-        return b'\t';
-    }
-    if b < b' ' {
-        return b'?';
-    }
-    if b < DEL {
-        return b;
-    }
-    b'?'
+// Its number, its name and what it means.
+fn put_title(out: &mut [u8], at: usize, number: u16) -> usize
+    ensures { λ r. ⌜ Put (now (out .entry)) (now (out .exit)) at r (title number) ⌝ }
+{
+    let a = put(out, at, b"REFUSED ");
+    let b = put_decimal(out, a, long16(number));
+    let c = put_byte(out, b, b' ');
+    let d = put_name(out, c, number);
+    let e = put(out, d, b": ");
+    put_meaning(out, e, number)
 }
 
-// What stands under a byte: a tab under a tab, so that both lines keep step, a caret inside the place, a space before it.
-fn mark(b: u8, inside: bool) -> u8 {
-    if b == b'\t' {
-        return b'\t';
-    }
-    if inside {
-        return b'^';
-    }
-    b' '
+// The file, the line and the column of a place, each before a colon.
+fn put_position(out: &mut [u8], at: usize, file: &[u8], src: &[u8], place: usize) -> usize
+    requires { ⌜ (place ≤ length (now src)) × (length (now src) ≤ 262144) ⌝ }
+    ensures { λ r. ⌜ Put (now (out .entry)) (now (out .exit)) at r (positionText (now (file .entry)) (now (src .entry)) place) ⌝ }
+{
+    let feeds = view_places::line_feeds(&src[0..place]);
+    let since = view_places::bytes_since(&src[0..place]);
+    let a = put(out, at, file);
+    let b = put_byte(out, a, b':');
+    let c = put_decimal(out, b, long(feeds + 1));
+    let d = put_byte(out, c, b':');
+    let e = put_decimal(out, d, long(since + 1));
+    put(out, e, b": ")
 }
 
-// The bytes of a window.
-fn put_shown(out: &mut [u8], at: usize, src: &[u8], from: usize, to: usize) -> usize {
-    let mut i = from;
-    let mut end = at;
-    while i < to {
-        end = put_byte(out, end, shown(base_text::byte_at(src, i)));
-        i += 1;
+// Words for a place where nothing stands: the end of the source, or of a line.
+fn put_end(out: &mut [u8], at: usize, src: &[u8], place: usize) -> usize
+    requires { ⌜ place ≤ length (now src) ⌝ }
+    ensures { λ r. ⌜ Put (now (out .entry)) (now (out .exit)) at r (endWords (now (src .entry)) place) ⌝ }
+{
+    if place == src.len() {
+        return put(out, at, b" (the end of the source)");
     }
-    end
+    let first = view_places::line_start(src, place);
+    if view_places::line_stop(src, first) <= place {
+        return put(out, at, b" (the end of the line)");
+    }
+    at
 }
 
-// The marks under the bytes up to the place's end.
-fn put_marks(
+// The first line of a refusal with a place.
+fn put_heading(
     out: &mut [u8],
     at: usize,
+    file: &[u8],
     src: &[u8],
-    from: usize,
-    start: usize,
-    stop: usize,
-) -> usize {
-    let mut i = from;
-    let mut end = at;
-    while i < stop {
-        end = put_byte(out, end, mark(base_text::byte_at(src, i), start <= i));
-        i += 1;
+    number: u16,
+    place: usize,
+) -> usize
+    requires { ⌜ (place ≤ length (now src)) × (length (now src) ≤ 262144) ⌝ }
+    ensures { λ r. ⌜ Put (now (out .entry)) (now (out .exit)) at r (headingText (now (file .entry)) (now (src .entry)) number place) ⌝ }
+{
+    let a = put_position(out, at, file, src, place);
+    let b = put_title(out, a, number);
+    let c = put_end(out, b, src, place);
+    put_byte(out, c, b'\n')
+}
+
+// A refusal with no place: one line.
+pub fn put_placeless(out: &mut [u8], at: usize, file: &[u8], number: u16) -> usize
+    ensures { λ r. ⌜ Put (now (out .entry)) (now (out .exit)) at r (placelessText (now (file .entry)) number) ⌝ }
+{
+    let a = put(out, at, file);
+    let b = put(out, a, b": ");
+    let c = put_title(out, b, number);
+    put_byte(out, c, b'\n')
+}
+
+// A place that can be shown: it ends behind 0 and begins in the source, which is one that is taken.
+fn is_placed(src: &[u8], start: usize, end: usize) -> bool
+    ensures { λ r. ⌜ r ≡ placed (now (src .entry)) start end ⌝ }
+{
+    (0 < end) & (start <= src.len()) & (src.len() <= base_capacities::SOURCE_BYTES)
+}
+
+// The second place, where there is one.
+fn put_second(out: &mut [u8], at: usize, file: &[u8], src: &[u8], start: usize, end: usize) -> usize
+    ensures { λ r. ⌜ Put (now (out .entry)) (now (out .exit)) at r (secondText (now (file .entry)) (now (src .entry)) start end) ⌝ }
+{
+    if is_placed(src, start, end) {
+        let a = put_position(out, at, file, src, start);
+        let b = put(out, a, b"and here\n");
+        return view_line::put_underlined(out, b, src, start, end);
     }
-    end
+    at
 }
 
-// Where a line ends that begins here: before LF or CR LF, or with the source.
-fn line_end(src: &[u8], first: usize) -> usize {
-    let end = base_text::run_end(src, first, Class::Line);
-    if first < end {
-        let before = end - 1;
-        if end < src.len() {
-            if base_text::byte_at(src, before) == b'\r' {
-                return before;
-            }
-        }
-    }
-    end
-}
-
-// How much of a long line is shown, and how much of it before the place at most.
-const SHOWN_BYTES: usize = 100;
-
-const BEFORE_PLACE: usize = 60;
-
-// What is shown of a line: all of it, or a hundred bytes with the place's start among them.
-fn window_of(first: usize, last: usize, start: usize) -> Window {
-    if distance(first, last) <= SHOWN_BYTES {
-        return Window {
-            from: first,
-            to: last,
-        };
-    }
-    let from = wrapping_add_usize(first, distance(BEFORE_PLACE, distance(first, start)));
-    Window {
-        from,
-        to: least(last, wrapping_add_usize(from, SHOWN_BYTES)),
-    }
-}
-
-// What a shown line begins with: dots where bytes before it are left out.
-fn put_front(out: &mut [u8], dots: bool) -> usize {
-    if dots {
-        return put(out, 0, b"    ...");
-    }
-    put(out, 0, b"    ")
-}
-
-// The line of a place, and carets under the place: one at least, and none behind what is shown.
-fn print_underlined(src: &[u8], first: usize, last: usize, start: usize, end: usize) {
-    let mut out = [0u8; LINE_BYTES];
-    let w = window_of(first, last, start);
-    let cut = first < w.from;
-    let front = put_front(&mut out, cut);
-    let line = put_shown(&mut out, front, src, w.from, w.to);
-    if w.to < last {
-        let dots = put(&mut out, line, b"...");
-        print_line(&mut out, dots);
-    } else {
-        print_line(&mut out, line);
-    }
-    print_marks(
-        src,
-        w.from,
-        start,
-        most(least(end, w.to), wrapping_add_usize(start, 1)),
-        cut,
-    );
-}
-
-fn print_marks(src: &[u8], from: usize, start: usize, stop: usize, cut: bool) {
-    let mut out = [0u8; LINE_BYTES];
-    let dots = put(&mut out, 0, b"    ");
-    if cut {
-        let front = put(&mut out, dots, b"   ");
-        let marks = put_marks(&mut out, front, src, from, start, stop);
-        print_line(&mut out, marks);
-        return;
-    }
-    let marks = put_marks(&mut out, dots, src, from, start, stop);
-    print_line(&mut out, marks);
-}
-
-// Where a place is that begins at an end.
-fn put_end(out: &mut [u8], at: usize, start: usize, last: usize, size: usize) -> usize {
-    if start == size {
-        return put(out, at, b", the end of the source:");
-    }
-    if start == last {
-        return put(out, at, b", the end of the line:");
-    }
-    put(out, at, b":")
-}
-
-// The line and column of a place, after a word; its line ends at `last`, and the source has so many bytes.
-fn print_where(word: &[u8], feeds: usize, since: usize, start: usize, last: usize, size: usize) {
-    let mut out = [0u8; HEADING_BYTES];
-    let a = put(&mut out, 0, word);
-    let b = put(&mut out, a, b"line ");
-    let c = put_decimal(&mut out, b, long(wrapping_add_usize(feeds, 1)));
-    let d = put(&mut out, c, b", column ");
-    let e = put_decimal(&mut out, d, long(wrapping_add_usize(since, 1)));
-    let f = put_end(&mut out, e, start, last, size);
-    print_line(&mut out, f);
-}
-
-// One place of a refusal, after a word.
-fn print_place(word: &[u8], src: &[u8], start: usize, end: usize) {
-    if start <= src.len() {
-        let feeds = view_places::line_feeds(&src[0..start]);
-        let since = view_places::bytes_since(&src[0..start]);
-        let first = distance(since, start);
-        let last = line_end(src, first);
-        print_where(word, feeds, since, start, last, src.len());
-        print_underlined(src, first, last, start, end);
-    }
-}
-
-fn say(text: &[u8]) {
-    io::write_all(STDOUT_FILENO, text);
-}
-
-// What a refusal of a token means.
-fn say_token(number: u16) {
-    match number {
-        base_refusals::DOES_NOT_FIT_U16 => say(b": a number above 65535"),
-        base_refusals::DOES_NOT_FIT_I16 => say(b": a number below -32768"),
-        base_refusals::INVALID_HEX => say(b": a digit that is not hexadecimal"),
-        base_refusals::INVALID_NUMERIC => say(b": a digit that is not decimal"),
-        base_refusals::INVALID_HEX_EMPTY => say(b": a hexadecimal number without digits"),
-        base_refusals::INVALID_DEC_EMPTY => say(b": a decimal number without digits"),
-        base_refusals::UNCLOSED_STR_LIT => say(b": a string that is not closed on its line"),
-        base_refusals::STR_LIT_TOO_BIG => say(b": a string of more than 65,534 characters"),
-        base_refusals::INVALID_REG => say(b": no such register, they are R0 to R7"),
-        base_refusals::INVALID_SYMBOL => say(b": a character that begins no token"),
-        base_refusals::SOURCE_TOO_LONG => say(b": the source is longer than 65,536 bytes"),
-        base_refusals::NON_ASCII => say(b": a byte that is not ASCII"),
-        _ => say_statement(number),
-    }
-}
-
-// What a refusal of a statement or of a capacity means.
-fn say_statement(number: u16) {
-    match number {
-        base_refusals::BAD_STATEMENT => say(b": this cannot stand here"),
-        base_refusals::BAD_OPERAND => say(
-            b": the operand that is due here is missing or of another kind",
-        ),
-        base_refusals::OPERAND_RANGE => say(b": a number that does not fit this operand"),
-        base_refusals::NAME_TOO_LONG => say(b": a name of more than 64 characters"),
-        base_refusals::TABLE_FULL => say(
-            b": more than 1,024 labels, 1,024 relocations or 64 blocks",
-        ),
-        base_refusals::NO_ROOM => say(b": more than 32,768 words"),
-        base_refusals::SHORT_BUFFER => say(b": a lent buffer is too short"),
-        _ => say_pass(number),
-    }
-}
-
-// What a refusal of the passes means.
-fn say_pass(number: u16) {
-    match number {
-        base_refusals::UNDET_ADDR_LABEL => say(b": a label outside .orig and .end has no address"),
-        base_refusals::UNDET_ADDR_STMT => say(
-            b": a statement outside .orig and .end has no address",
-        ),
-        base_refusals::UNCLOSED_ORIG => say(b": an .orig without its .end"),
-        base_refusals::UNOPENED_ORIG => say(b": an .end without its .orig"),
-        base_refusals::OVERLAPPING_ORIG => say(b": an .orig inside a block"),
-        base_refusals::OVERLAPPING_LABELS => say(b": one label at two addresses"),
-        base_refusals::WRAPPING_BLOCK => say(b": the block runs past xFFFF"),
-        base_refusals::BLOCK_IN_IO => say(
-            b": the block runs into the addresses of devices, xFE00 and above",
-        ),
-        base_refusals::OVERLAPPING_BLOCKS => say(b": two blocks share an address"),
-        base_refusals::OFFSET_NEW_ERR => say(b": the label is too far away for this instruction"),
-        base_refusals::OFFSET_EXTERNAL => say(
-            b": an external label has no address here, so there is no offset to it",
-        ),
-        base_refusals::COULD_NOT_FIND_LABEL => say(b": no label has this name"),
-        _ => {}
-    }
-}
-
-// The number, the name and what they mean.
-fn print_heading(number: u16) {
-    let mut out = [0u8; HEADING_BYTES];
-    let name = view_places::refusal_name(wide16(number));
-    let size = base_text::run_end(&name, 0, Class::Word);
-    let a = put(&mut out, 0, b"REFUSED ");
-    let b = put_decimal(&mut out, a, long16(number));
-    let c = put(&mut out, b, b" ");
-    let d = put_shown(&mut out, c, &name, 0, size);
-    if d <= HEADING_BYTES {
-        say(&out[0..d]);
-    }
-    say_token(number);
-    say(b"\n");
-}
-
-// A refusal with no place in the source.
-pub fn print_placeless(number: u16) {
-    print_heading(number);
-    say(b"no place in the source: it is refused as a whole\n");
-}
-
-// A refusal with its places; the second is not there where it ends at 0.
-pub fn print_refusal(
+// A refusal with a place, and its second where there is one.
+fn put_placed(
+    out: &mut [u8],
+    at: usize,
+    file: &[u8],
     src: &[u8],
     number: u16,
     start: usize,
     end: usize,
     start2: usize,
     end2: usize,
-) {
-    if (number == base_refusals::SOURCE_TOO_LONG)
-        | (number == base_refusals::NO_ROOM)
-        | (number == base_refusals::SHORT_BUFFER)
-    {
-        print_placeless(number);
-        return;
+) -> usize
+    requires { ⌜ (start ≤ length (now src)) × (length (now src) ≤ 262144) ⌝ }
+    ensures { λ r. ⌜ Put (now (out .entry)) (now (out .exit)) at r (placedText (now (file .entry)) (now (src .entry)) number start end start2 end2) ⌝ }
+{
+    let a = put_heading(out, at, file, src, number, start);
+    let b = view_line::put_underlined(out, a, src, start, end);
+    put_second(out, b, file, src, start2, end2)
+}
+
+// A refusal of this source, of the file with this name. 11 is refused as a whole, and so is what has no place.
+pub fn put_refusal(
+    out: &mut [u8],
+    at: usize,
+    file: &[u8],
+    src: &[u8],
+    number: u16,
+    start: usize,
+    end: usize,
+    start2: usize,
+    end2: usize,
+) -> usize
+    ensures { λ r. ⌜ Put (now (out .entry)) (now (out .exit)) at r (refusalText (now (file .entry)) (now (src .entry)) number start end start2 end2) ⌝ }
+{
+    if number == base_refusals::SOURCE_TOO_LONG {
+        return put_placeless(out, at, file, number);
     }
-    print_heading(number);
-    print_place(b"", src, start, end);
-    if end2 > 0 {
-        print_place(b"and ", src, start2, end2);
+    if is_placed(src, start, end) {
+        return put_placed(out, at, file, src, number, start, end, start2, end2);
     }
+    put_placeless(out, at, file, number)
 }

@@ -1,0 +1,2 @@
+-- What the contracts of `view_line` cite. Assumes nothing.
+pub mod Shown

@@ -1,0 +1,3 @@
+-- Laws that the proofs of `view_refusal` cite. Assumes nothing.
+pub mod MeaningLaws
+pub mod RefusalTexts

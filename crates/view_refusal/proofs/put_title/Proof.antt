@@ -1,0 +1,21 @@
+-- `view_refusal::put_title` meets its contract. Assumes nothing.
+use Rattle.view_refusal.proofs.RefusalTexts.{title-put}
+use borrow.Author.Needs.{needs}
+use Rattle.view_refusal.proofs.put_title.Statement.{statement}
+use Rattle.view_refusal.proofs.put_title.Tie as tie
+
+pub put-title-spec : {M : Type 1} → statement M
+put-title-spec =
+    tie.close
+    (tie.spec
+    (λ c. search needs)
+    (λ c κs. search needs)
+    (λ c κs. search needs)
+    (λ c κs. search needs)
+    (λ c κs. search needs)
+    (λ c κs. search needs)
+    (λ c. search needs)
+    (λ c κs. search needs)
+    (λ c κs. search needs)
+    (λ c. search needs)
+    (λ c. title-put _ (c .before .before .before .before .before .before .before .before .before .before .before .before .before .before .before .before .before .before .before .before .long16 .ensures) (c .before .before .before .before .before .before .before .before .before .before .before .before .before .before .before .before .before .before .before .before .before .before .before .before .put .ensures) (c .before .before .before .before .before .before .before .before .before .before .before .before .before .before .before .before .before .before .before .put-decimal .ensures) (c .before .before .before .before .before .before .before .before .before .before .before .before .before .before .before .put-byte .ensures) (c .before .before .before .before .before .before .before .before .before .before .before .put-name .ensures) (c .before .before .before .before .before .before .put2 .ensures) (c .before .before .put-meaning .ensures)))

@@ -1,0 +1,3 @@
+-- What the contracts of `view_refusal` cite beside the rules. Assumes nothing.
+pub mod Meanings
+pub mod Refusals
