@@ -1,0 +1,3 @@
+-- What the contracts of `view_instruction` cite beside the rules. Assumes nothing.
+pub mod Lines
+pub mod Spelled
