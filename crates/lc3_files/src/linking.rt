@@ -7,21 +7,11 @@ use crate::named::Held;
 use crate::named::PATH_BYTES;
 use crate::telling;
 use base_capacities::NAME_BYTES;
-use base_capacities::WORDS;
-use base_refusals::OVERLAPPING_LABELS;
 use lc3_input::front;
+use lc3_link::Linked;
 use libc::STDERR_FILENO;
-use object_answer::Answer;
-use object_answer::Written;
-use object_answer::counts_of;
+use std::num::wrapping_add_usize;
 use view_text::put;
-
-// What a link of two objects gives: its number, how many bytes the result has, and how long the name is that stands in the way.
-struct Linked {
-    number: u16,
-    size: usize,
-    named: usize,
-}
 
 // What the next file of a list gives: the size of the result up to it, or the answer.
 enum Step {
@@ -32,142 +22,18 @@ enum Step {
 // Room for the names of two files.
 const PAIR_BYTES: usize = 2 * PATH_BYTES + 8;
 
-// A link that gives no object.
-fn refused_link(number: u16, named: usize) -> Linked {
-    Linked {
-        number,
-        size: 0,
-        named,
-    }
-}
-
-// The answer of a link: the object in these buffers as stored bytes, or the name of the first object's label row that stands in the way.
-fn finish(
-    answer: Answer,
-    labels1: &[u32],
-    names1: &[u8],
-    blocks: &[u16],
-    words: &[u16],
-    marks: &[u8],
-    labels: &[u32],
-    relocations: &[u32],
-    names: &[u8],
-    bytes: &mut [u8],
-    name: &mut [u8],
-) -> Linked {
-    let number = answer.number;
-    if number == OVERLAPPING_LABELS {
-        return refused_link(
-            number,
-            put(name, 0, object::label_name(labels1, names1, answer.start)),
-        );
-    }
-    if number != 0 {
-        return refused_link(number, 0);
-    }
-    let c = counts_of(answer);
-    match stored::store(
-        c,
-        blocks,
-        words,
-        marks,
-        labels,
-        relocations,
-        names,
-        bytes,
-    ) {
-        Written::Bytes(size) => Linked {
-            number,
-            size,
-            named: 0,
-        },
-        Written::Refused(refused) => refused_link(refused, 0),
-    }
-}
-
-// Links the objects stored in the first bytes and in the second; the result is stored where the first was.
-fn link_two(bytes: &mut [u8], size: usize, second: &[u8], name: &mut [u8]) -> Linked {
-    let mut blocks1 = [0u16; object::BLOCK_ROOM];
-    let mut words1 = [0u16; WORDS];
-    let mut marks1 = [0u8; WORDS];
-    let mut labels1 = [0u32; object::LABEL_ROOM];
-    let mut relocations1 = [0u32; object::RELOCATION_ROOM];
-    let mut names1 = [0u8; object::NAME_ROOM];
-    let mut blocks2 = [0u16; object::BLOCK_ROOM];
-    let mut words2 = [0u16; WORDS];
-    let mut marks2 = [0u8; WORDS];
-    let mut labels2 = [0u32; object::LABEL_ROOM];
-    let mut relocations2 = [0u32; object::RELOCATION_ROOM];
-    let mut names2 = [0u8; object::NAME_ROOM];
-    let mut blocks = [0u16; object::BLOCK_ROOM];
-    let mut words = [0u16; WORDS];
-    let mut marks = [0u8; WORDS];
-    let mut labels = [0u32; object::LABEL_ROOM];
-    let mut relocations = [0u32; object::RELOCATION_ROOM];
-    let mut names = [0u8; object::NAME_ROOM];
-    let a = stored_load::load(
-        front(bytes, size),
-        &mut blocks1,
-        &mut words1,
-        &mut marks1,
-        &mut labels1,
-        &mut relocations1,
-        &mut names1,
-    );
-    let b = stored_load::load(
-        second,
-        &mut blocks2,
-        &mut words2,
-        &mut marks2,
-        &mut labels2,
-        &mut relocations2,
-        &mut names2,
-    );
-    let answer = link::link(
-        counts_of(a),
-        &blocks1,
-        &words1,
-        &marks1,
-        &labels1,
-        &relocations1,
-        &names1,
-        counts_of(b),
-        &blocks2,
-        &words2,
-        &marks2,
-        &labels2,
-        &relocations2,
-        &names2,
-        &mut blocks,
-        &mut words,
-        &mut marks,
-        &mut labels,
-        &mut relocations,
-        &mut names,
-    );
-    finish(
-        answer,
-        &labels1,
-        &names1,
-        &blocks,
-        &words,
-        &marks,
-        &labels,
-        &relocations,
-        &names,
-        bytes,
-        name,
-    )
-}
-
 // The file of an argument linked to what stands at the front of the bytes.
 fn link_argument(bytes: &mut [u8], size: usize, i: usize, name: &mut [u8]) -> Linked {
     let mut path = [0u8; PATH_BYTES];
     let n = os::arg(i, &mut path);
     let mut second = [0u8; FILE_BYTES];
     match named::read_stored(&path[..n], &mut second) {
-        Held::Bytes(k) => link_two(bytes, size, front(&second, k), name),
-        Held::Unread => refused_link(base_refusals::BAD_FIELD, 0),
+        Held::Bytes(k) => lc3_link::link_stored(bytes, size, front(&second, k), name),
+        Held::Unread => Linked {
+            number: base_refusals::BAD_FIELD,
+            size: 0,
+            named: 0,
+        },
     }
 }
 
@@ -243,7 +109,7 @@ fn link_next(bytes: &mut [u8], size: usize, first: usize, i: usize) -> Step {
 // The rest of a list, linked to its first file; the result goes to standard output.
 fn link_rest(bytes: &mut [u8], start: usize, first: usize, end: usize) -> u8 {
     let mut size = start;
-    let mut i = first + 1;
+    let mut i = wrapping_add_usize(first, 1);
     while i < end {
         match link_next(bytes, size, first, i) {
             Step::Size(n) => {

@@ -10,7 +10,8 @@ use list_print::LISTING_BYTES;
 fn list_bytes(bytes: &[u8]) -> u8 {
     let mut text = [0u8; LISTING_BYTES];
     let n = stored_list::list_stored(bytes, &mut text);
-    telling::write_out(front(&text, n), lc3_input::status_of(text[0] != b'R'))
+    let status = lc3_input::status_of(text[0] != b'R');
+    telling::write_out(front(&text, n), status)
 }
 
 // A file.

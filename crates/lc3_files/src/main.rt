@@ -2,7 +2,6 @@
 // ./lc3 answers with is told on descriptor 3.
 mod assembling;
 mod checking;
-mod explaining;
 mod linking;
 mod listing;
 mod named;
@@ -34,12 +33,6 @@ fn run_on_file(word: &[u8], path: &[u8]) -> u8 {
     }
     if is(word, b"list") {
         return listing::list(path);
-    }
-    if is(word, b"explain") {
-        return explaining::explain_source(path);
-    }
-    if is(word, b"explain-object") {
-        return explaining::explain_object(path);
     }
     telling::FAILED
 }
