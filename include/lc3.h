@@ -1,4 +1,16 @@
-/* Pleatspruce for C: the functions of liblc3.a. Each takes whatever it is lent and answers nine numbers; none keeps anything. */
+/* Pleatspruce for C: the functions of liblc3.a. Each takes whatever it is lent and answers nine numbers; none keeps anything.
+
+   What is lent: a buffer is a pointer and a length in elements. A pointer may be null only where its length is 0, and then it is not looked at.
+   A buffer that is written, `out` among them, must overlap no other that is lent in the same call; buffers that are only read (`const`) may
+   overlap each other. Nothing is asked of what stands in them: whatever it is, it gets an answer. Calls may run at the same time in several
+   threads, if what one writes is lent to no other.
+
+   What comes back: `out` has LC3_ANSWER numbers. The first is 0 where the call accepts, else the refusal; then the two spans and the four
+   counts, which each function below names. After a refusal the counts are 0 and every buffer that is written is all zero; after acceptance
+   what is not used of it is zero. Later editions may answer with more counts behind these: lend LC3_ANSWER_ROOM numbers, and they have room.
+
+   Stack: no call takes more than 64 KB. lc3_assemble takes most, some 35 KB, for the tables of its first pass; lc3_link some 17 KB, lc3_check
+   and lc3_load some 9 KB, the others about 1 KB. No call recurses, and none takes memory from a heap. */
 #ifndef LC3_H
 #define LC3_H
 
@@ -27,7 +39,19 @@ enum lc3_place {
     LC3_SECOND_START = 3, /* second span */
     LC3_SECOND_END = 4,
     LC3_FIRST_COUNT = 5,  /* four counts, as each function says */
-    LC3_ANSWER = 9        /* how many numbers an answer has */
+    LC3_SECOND_COUNT = 6,
+    LC3_THIRD_COUNT = 7,
+    LC3_FOURTH_COUNT = 8,
+    LC3_ANSWER = 9,       /* how many numbers an answer has */
+    LC3_ANSWER_ROOM = 16  /* how many to lend, so that later editions have room for more counts */
+};
+
+/* The four counts of a call that makes an object, and of lc3_check. */
+enum lc3_counts {
+    LC3_N_BLOCKS = LC3_FIRST_COUNT,
+    LC3_N_WORDS = LC3_SECOND_COUNT,
+    LC3_N_LABELS = LC3_THIRD_COUNT,
+    LC3_N_RELOCATIONS = LC3_FOURTH_COUNT
 };
 
 /* The refusals. */
@@ -97,6 +121,15 @@ void lc3_next_token(const uint8_t *src, size_t src_len, size_t at, uint64_t out[
 
 /* The first of 11, 12, 1 to 10 and 13 to 16 in the source, in this order. Counts: 0. */
 void lc3_first_refusal(const uint8_t *src, size_t src_len, uint64_t out[LC3_ANSWER]);
+
+/* A place of a source, as a span's start: how many lines stand before it, and how many bytes before it in its line. Line and column, from 1, are
+   one more each. A place past the end counts as the end. Counts: lines, bytes, 0, 0. */
+void lc3_place(const uint8_t *src, size_t src_len, size_t at, uint64_t out[LC3_ANSWER]);
+
+/* A refusal as text, `REFUSED`, its number, document 01's name and what it means, as far as it fits into `text`, the rest of it zero; LC3_REFUSAL_TEXT
+   bytes are enough for every one. A number that is none has no name and no meaning. Counts: bytes, 0, 0, 0. */
+#define LC3_REFUSAL_TEXT 128
+void lc3_refusal(uint16_t number, uint8_t *text, size_t text_len, uint64_t out[LC3_ANSWER]);
 
 /* Assembles the source into the six buffers. Counts: blocks, words, labels, relocations; the unused rest of each buffer is zero.
    After a refusal every buffer is zero. */

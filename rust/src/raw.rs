@@ -74,6 +74,8 @@ mod c {
     extern "C" {
         pub fn lc3_next_token(src: *const u8, src_len: usize, at: usize, out: *mut [u64; 9]);
         pub fn lc3_first_refusal(src: *const u8, src_len: usize, out: *mut [u64; 9]);
+        pub fn lc3_place(src: *const u8, src_len: usize, at: usize, out: *mut [u64; 9]);
+        pub fn lc3_refusal(number: u16, text: *mut u8, text_len: usize, out: *mut [u64; 9]);
         pub fn lc3_assemble(
             src: *const u8,
             src_len: usize,
@@ -126,6 +128,22 @@ pub fn first_refusal(src: &[u8]) -> Answer {
     let mut out = [0; 9];
     // SAFETY: as above.
     unsafe { c::lc3_first_refusal(src.as_ptr(), src.len(), &mut out) };
+    out
+}
+
+/// A place of a source. Counts: lines before it, bytes before it in its line, 0, 0.
+pub fn place(src: &[u8], at: usize) -> Answer {
+    let mut out = [0; 9];
+    // SAFETY: as above.
+    unsafe { c::lc3_place(src.as_ptr(), src.len(), at, &mut out) };
+    out
+}
+
+/// A refusal's number, name and meaning as text. Counts: bytes, 0, 0, 0.
+pub fn refusal(number: u16, text: &mut [u8]) -> Answer {
+    let mut out = [0; 9];
+    // SAFETY: the text is lent whole and overlaps nothing, being borrowed.
+    unsafe { c::lc3_refusal(number, text.as_mut_ptr(), text.len(), &mut out) };
     out
 }
 

@@ -1,6 +1,6 @@
 //! Refusals: document 01's numbers and names, what each means, and where it stands.
 
-use crate::raw::Answer;
+use crate::raw::{self, Answer};
 use crate::Span;
 
 /// Declares the refusals in one table: name, number, meaning.
@@ -140,7 +140,6 @@ impl std::error::Error for Refusal {}
 /// assert_eq!(lc3::line_column(source, refusal.spans[0].start), (2, 10));
 /// ```
 pub fn line_column(src: &[u8], at: usize) -> (usize, usize) {
-    let before = &src[..at.min(src.len())];
-    let since = before.iter().rev().take_while(|b| **b != b'\n').count();
-    (1 + before.iter().filter(|b| **b == b'\n').count(), 1 + since)
+    let [.., lines, bytes, _, _] = raw::place(src, at);
+    (1 + lines as usize, 1 + bytes as usize)
 }

@@ -176,6 +176,14 @@ fn places_and_texts() {
     assert_eq!(object.words(), text);
     assert!(Kind::ALL.iter().all(|kind| Kind::from_number(kind.number()) == Some(*kind)));
     assert_eq!((Kind::from_number(0), Kind::from_number(17)), (None, None));
+    for number in 0..=u16::from(u8::MAX) {
+        let mut text = [7; 128];
+        let size = raw::refusal(number, &mut text)[5] as usize;
+        let told = Kind::from_number(number).map_or(format!("REFUSED {number} : "), |kind| format!("REFUSED {kind}"));
+        assert_eq!((std::str::from_utf8(&text[..size]), text[size..].iter().any(|b| *b != 0)), (Ok(&*told), false));
+        let mut short = [7; 9];
+        assert_eq!((raw::refusal(number, &mut short)[5], &short[..]), (9, &told.as_bytes()[..9]));
+    }
 }
 
 #[test]

@@ -1,5 +1,5 @@
 -- What each call puts is what its contract says. Assumes nothing.
-use Prim.Native.Nat.{ℕ, _+_, _*_, _≤_}
+use Prim.Native.Nat.{ℕ, _+_, _-_, _*_, _≤_}
 use mathlib.Core.Path.{_≡_, refl, sym, _∙_, ap}
 use mathlib.Core.List.{List}
 use mathlib.Core.Option.{Option}
@@ -9,7 +9,7 @@ use Rattle.rules.specs.Base.{Span, Outcome, ok, refused}
 use Rattle.rules.specs.Statements.{Stmt}
 use Rattle.rules.specs.Objects.{Object, Name, Counts, lookupLabel}
 use Rattle.rules.specs.Words as R
-use Rattle.rules.specs.Buffers.{Buffers, view, Valid}
+use Rattle.rules.specs.Buffers.{Buffers, view, Valid, zeros}
 use Rattle.rules.specs.Answers.{Answer, answer, noCounts, numbers}
 use Rattle.lex_token.specs.declared.Next.{Next}
 use Rattle.parse.specs.Coded.{codedStatements, sourceStatements}
@@ -27,8 +27,13 @@ use Rattle.laws.proofs.Single.{Single, source-single}
 use Rattle.object_answer.specs.declared.Answer as object_answer
 use Rattle.object_answer.specs.Meant.{meant, Leaves}
 use Rattle.lc3_answers.specs.declared.Reply.{Reply}
-use Rattle.lc3_answers.specs.Told.{reply, row, answered, nextTold, statementsTold, writtenTold, saidTold, RowIn, foundTold, lineTold}
-use Rattle.lc3.specs.Calls.{checked, LinkCall, WriteCall, LookupCall, RevLookupCall}
+use Rattle.lc3_answers.specs.Told.{reply, row, answered, counted, nextTold, statementsTold, writtenTold, saidTold, RowIn, foundTold, lineTold}
+use Rattle.object_answer.specs.declared.Written.the-variants.{Bytes}
+use Rattle.laws_stored.specs.Offsets.{partAt}
+use Rattle.view_places.specs.Lines.{feeds, since}
+use Rattle.view_text.specs.Put.{Put}
+use Rattle.view_refusal.specs.Refusals.{title}
+use Rattle.lc3.specs.Calls.{checked, placeTold, RefusalCall, LinkCall, WriteCall, LookupCall, RevLookupCall}
 
 -- the numbers put are those of the answer
 put : {r : Reply} {a : Answer} {out : List ℕ} → r ≡ reply a → out ≡ row r → out ≡ numbers a
@@ -51,6 +56,14 @@ module _ {r : Reply} {out : List ℕ} (p : out ≡ row r) where
 
   pub statements-put : {n : Statements} (s : List ℕ) → n ≡ codedStatements (sourceStatements s) → r ≡ reply (statementsTold n) → out ≡ numbers (checked (sourceStatements s))
   statements-put s q e = put (e ∙ (ap (λ (x : Statements). reply (statementsTold x)) q ∙ ap reply (source-checked s))) p
+
+  pub place-put : (s : List ℕ) (i : ℕ) {b : List ℕ} {k l : ℕ} → b ≡ partAt s 0 (i - 0) → k ≡ feeds b → l ≡ since b → r ≡ reply (counted k l 0 0) → out ≡ numbers (placeTold s i)
+  place-put s i h f g e =
+      let z : i - 0 ≡ i = omega arith in
+      put (e ∙ (rw (f, g, h, z) refl)) p
+
+  pub refusal-put : (n len : ℕ) {b text : List ℕ} {k : ℕ} → b ≡ zeros len → Put b text 0 k (title n) → r ≡ reply (writtenTold (Bytes k)) → RefusalCall n len text out
+  refusal-put n len {b} {text} {k} z h e = record { size = k; put = rw z at h; told = put e p }
 
   pub line-put : {n m : R.Line} → n ≡ m → r ≡ reply (lineTold n) → out ≡ numbers (lineTold m)
   line-put q e = put (e ∙ ap (λ (x : R.Line). reply (lineTold x)) q) p

@@ -6,7 +6,7 @@ use mathlib.Core.Option.{Option}
 use Rattle.rules.specs.Base.{Outcome, ok, refused}
 use Rattle.rules.specs.Statements.{Stmt}
 use Rattle.rules.specs.Objects.{Lab, Object, Counts, lookupLabel}
-use Rattle.rules.specs.Buffers.{Buffers, view}
+use Rattle.rules.specs.Buffers.{Buffers, view, zeros}
 use Rattle.rules.specs.Answers.{Answer, answer, numbers, accepted, noCounts, refusal}
 use Rattle.rules.specs.Calls.{OfObject, leftObject}
 use Rattle.rules.proofs.Calls.{answered-once}
@@ -18,12 +18,26 @@ use Rattle.object_answer.specs.declared.Written.{Written}
 use Rattle.object_lookup.specs.Told.{Reversed}
 use Rattle.object_lookup.specs.declared.Found.{Found}
 use Rattle.object_lookup.proofs.Once.{found-once}
-use Rattle.lc3_answers.specs.Told.{writtenTold, saidTold, foundTold}
+use Rattle.laws_stored.specs.Offsets.{partAt}
+use Rattle.view_places.specs.Lines.{feeds, since}
+use Rattle.view_text.specs.Put.{Put}
+use Rattle.view_refusal.specs.Refusals.{title}
+use Rattle.lc3_answers.specs.Told.{counted, writtenTold, saidTold, foundTold}
 
 -- all statements of a source, with no counts
 abbrev pub checked : Outcome (List Stmt) → Answer
 checked (ok ss) = accepted noCounts
 checked (refused r) = refusal r
+
+-- a place of a source: how many lines stand before it, and how many bytes before it in its line
+abbrev pub placeTold : List ℕ → ℕ → Answer
+placeTold s i = counted (feeds (partAt s 0 i)) (since (partAt s 0 i)) 0 0
+
+-- a refusal as text at the front of len bytes, as far as it fits, zeros after it
+pub record RefusalCall (number len : ℕ) (text out : List ℕ) : Type 0 where
+  pub size : ℕ
+  pub put : Put (zeros len) text 0 size (title number)
+  pub told : out ≡ numbers (counted size 0 0 0)
 
 -- two objects into a third, whose buffers hold out and then out′
 pub record LinkCall (c : Counts) (b : Buffers) (d : Counts) (e out out′ : Buffers) (told : List ℕ) : Type 0 where
@@ -64,6 +78,11 @@ module _ {c : Counts} {b : Buffers} {d : Counts} {e out : Buffers} where
 
   pub link-object-once : {x y : Buffers} {told also : List ℕ} → LinkCall c b d e out x told → LinkCall c b d e out y also → x ≡ y
   link-object-once p q = p .left ∙ (ap (λ (o : Outcome Object). leftObject o out) (answered-once (p .lent) (q .lent)) ∙ sym (q .left))
+
+pub refusal-call-once : {n len : ℕ} {x y out also : List ℕ} → RefusalCall n len x out → RefusalCall n len y also → (x ≡ y) × (out ≡ also)
+refusal-call-once p q =
+    let s : p .size ≡ q .size = p .put .stop ∙ sym (q .put .stop) in
+    (p .put .here ∙ sym (q .put .here), p .told ∙ (ap (λ (k : ℕ). numbers (counted k 0 0 0)) s ∙ sym (q .told)))
 
 module _ {c : Counts} {b : Buffers} where
   pub write-call-once : {rule : ℕ → Object → Outcome (List ℕ)} {len : ℕ} {x y out also : List ℕ} → WriteCall rule c b len x out → WriteCall rule c b len y also → out ≡ also

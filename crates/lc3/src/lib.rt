@@ -1,5 +1,6 @@
 // The functions for other languages. A slice passes as a pointer and a length; every answer goes to `out`: the number, two spans and four counts.
 use object::Counts;
+use object_answer::Written;
 ghost use mathlib.Core.Path.{_≡_};
 ghost use lib.ListN.{length};
 ghost use Rattle.rules.specs.Tokens.{nextToken};
@@ -13,7 +14,7 @@ ghost use Rattle.rules.specs.Calls.{leftObject};
 ghost use Rattle.asm.specs.Call.{called};
 ghost use Rattle.stored_load.specs.Call.{called as loading};
 ghost use Rattle.lc3_answers.specs.Told.{four, nextTold, lineTold};
-ghost use Rattle.lc3.specs.Calls.{checked, LinkCall, ListCall, StoreCall, LookupCall, RevLookupCall};
+ghost use Rattle.lc3.specs.Calls.{checked, placeTold, RefusalCall, LinkCall, ListCall, StoreCall, LookupCall, RevLookupCall};
 
 // The next token from `at` on: its place, its sort and its value; or its refusal.
 #[no_mangle]
@@ -40,6 +41,27 @@ pub extern "C" fn lc3_disassemble(word: u16, out: &mut [u64; 9])
         out,
         lc3_answers::told_line(isa::disassembly::disassemble_line(word)),
     );
+}
+
+// A place of a source: how many lines stand before it, and how many bytes before it in its line; one past the end counts as the end.
+#[no_mangle]
+pub extern "C" fn lc3_place(src: &[u8], at: usize, out: &mut [u64; 9])
+    ensures { λ _. ⌜ now (out .exit) ≡ numbers (placeTold (now (src .entry)) at) ⌝ }
+{
+    let before = stored_read::part_of(src, 0, at);
+    let lines = view_places::line_feeds(before);
+    let bytes = view_places::bytes_since(before);
+    lc3_answers::put_answer(out, lc3_answers::told_place(lines, bytes));
+}
+
+// A refusal as text, REFUSED, its number, its name and what it means, as far as it fits, and zero behind it: how many bytes.
+#[no_mangle]
+pub extern "C" fn lc3_refusal(number: u16, text: &mut [u8], out: &mut [u64; 9])
+    ensures { λ _. ⌜ RefusalCall number (length (now (text .entry))) (now (text .exit)) (now (out .exit)) ⌝ }
+{
+    base_buffers::zero_u8(text);
+    let n = view_refusal::put_title(text, 0, number);
+    lc3_answers::put_answer(out, lc3_answers::told_written(Written::Bytes(n)));
 }
 
 // Any source to an object in the lent buffers: the counts of blocks, words, labels and relocations; or one refusal, and every buffer zero.

@@ -178,6 +178,13 @@ pub fn told_written(written: Written) -> Reply
     }
 }
 
+// A place: how many lines stand before it, and how many bytes before it in its line.
+pub fn told_place(lines: usize, bytes: usize) -> Reply
+    ensures { λ r. ⌜ r ≡ reply (counted lines bytes 0 0) ⌝ }
+{
+    accepted(long(lines), long(bytes), 0, 0)
+}
+
 // The answer of looking up a name.
 pub fn told_said(s: Said) -> Reply
     ensures { λ r. ⌜ r ≡ reply (saidTold (said s)) ⌝ }

@@ -112,7 +112,7 @@ fn put_meaning(out: &mut [u8], at: usize, number: u16) -> usize
 }
 
 // Its number, its name and what it means.
-fn put_title(out: &mut [u8], at: usize, number: u16) -> usize
+pub fn put_title(out: &mut [u8], at: usize, number: u16) -> usize
     ensures { λ r. ⌜ Put (now (out .entry)) (now (out .exit)) at r (title number) ⌝ }
 {
     let a = put(out, at, b"REFUSED ");
