@@ -7,7 +7,7 @@ use native.Mathlib.Decide.{decLe}
 use native.Mathlib.Omega.{arith}
 use native.Mathlib.Numerals.{add-one}
 use lib.ListN.{length, getD, take, drop, set, length-append, length-take, length-drop, take-append-drop}
-use lib.Seq.{take-all, take-nil, take-suc, set-split}
+use lib.Seq.{take-all, take-nil, take-suc, take-append-le, set-split}
 use Rattle.list_lines.specs.Appended.{written, Appended}
 use Rattle.list_lines.proofs.Appending.{appended-more}
 use Rattle.view_text.specs.Put.{fitting, Put}
@@ -121,3 +121,23 @@ text-more t i h p q = put-same (sym (rw add-one (take-suc t i 0 h))) (put-more p
 
 pub text-all : {b c : List ℕ} {at e : ℕ} (t : List ℕ) (i : ℕ) → length t ≤ i → Put b c at e (take i t) → Put b c at e t
 text-all t i h p = put-same (take-all i t h) p
+
+-- behind a text that was cut nothing stands, whatever was to follow
+put-cut : {b c : List ℕ} {at e : ℕ} (t x y : List ℕ) → length b - at ≤ length t → Put b c at e (t ++ x) → Put b c at e (t ++ y)
+unfolding fitting
+put-cut {b} {c} {at} {e} t x y h p =
+    let q : fitting b at (t ++ x) ≡ fitting b at (t ++ y) = rw (take-append-le, take-append-le) refl in
+    record { here = p .here ∙ ap (written b at) q; stop = p .stop ∙ ap (λ (l : List ℕ). at + length l) q }
+
+-- what follows may go by how far the line has come: by the length of its text, where that is not cut
+pub put-from : {b c d : List ℕ} {at m e : ℕ} (f : ℕ → List ℕ) (t : List ℕ) → Put b c at m t → Put c d m e (f (m - at)) → Put b d at e (t ++ f (length t))
+put-from {b} {c} {d} {at} {m} {e} f t p q = go (decLe (length t) (length b - at))
+  where
+    k : length (fitting b at t) ≡ min (length b - at) (length t)
+    k = fitting-length b at t
+
+    go : Dec (length t ≤ length b - at) → Put b d at e (t ++ f (length t))
+    go (yes h) =
+        let z : m - at ≡ length t = omega (arith, k, p .stop) in
+        put-same (ap (λ (n : ℕ). t ++ f n) z) (put-more p q)
+    go (no h) = put-cut t (f (m - at)) (f (length t)) (omega arith) (put-more p q)

@@ -10,8 +10,8 @@ use Rattle.io.specs.Digits.{glyph, digits, Fewest}
 use Rattle.rules.specs.Base.{if_then_else_}
 use Rattle.rules.specs.Listing.{hex4}
 use Rattle.view_text.specs.Put.{Put}
-use Rattle.view_text.specs.Texts.{spaces, digitsIn, decimal, counted, hexText, hexText2}
-use Rattle.view_text.proofs.Putting.{put-none, put-same, put-size, put-more}
+use Rattle.view_text.specs.Texts.{spaces, gap, padded, digitsIn, decimal, counted, hexText, hexText2}
+use Rattle.view_text.proofs.Putting.{put-none, put-same, put-size, put-more, put-from}
 
 -- SPACES. i of n are put
 pub record Spaced (n : ℕ) (b c : List ℕ) (at end i : ℕ) : Type 0 where
@@ -79,10 +79,18 @@ pub count-many : {b c d f g : List ℕ} {at k l m e : ℕ} (n : ℕ) (w : List �
 unfolding counted if_then_else_
 count-many n w h p q r s = rw (ne-eqb n 1 h) (put-more (put-more (put-more p q) r) s)
 
+-- a text padded up to a column of its line
+pub pad-put : {b c d : List ℕ} {at m e : ℕ} (column : ℕ) (t : List ℕ) → Put b c at m t → Put c d m e (spaces (gap (m - at) column)) → Put b d at e (padded column t)
+unfolding padded
+pad-put column t p q = put-from (λ n. spaces (gap n column)) t p q
+
 -- hexadecimal digits
-pub hex-put : {b c d : List ℕ} {at m e : ℕ} (v : ℕ) (t : List ℕ) → t ≡ hex4 v → Put b c at m (120 ∷ []) → Put c d m e t → Put b d at e (hexText v)
-unfolding hexText
-hex-put v t h p q = put-same (rw h refl) (put-more p q)
+pub hex-all : (v : ℕ) (t : List ℕ) → t ≡ hex4 v → 120 ∷ getD t 0 0 ∷ getD t 1 0 ∷ getD t 2 0 ∷ getD t 3 0 ∷ [] ≡ hexText v
+unfolding hexText hex4
+hex-all v t h = rw h refl
+
+pub hex-put : {b c : List ℕ} {at e : ℕ} (v : ℕ) {t : List ℕ} → t ≡ hexText v → Put b c at e t → Put b c at e (hexText v)
+hex-put v h p = put-same h p
 
 pub hex2-put : {b c d f : List ℕ} {at m l e : ℕ} (v : ℕ) (t : List ℕ) → t ≡ hex4 v → Put b c at m (120 ∷ []) → Put c d m l (getD t 2 0 ∷ []) → Put d f l e (getD t 3 0 ∷ []) → Put b f at e (hexText2 v)
 unfolding hexText2 hex4

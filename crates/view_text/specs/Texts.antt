@@ -3,7 +3,7 @@ use Prim.Native.Nat.{ℕ, zero, suc, _+_, _-_, _/_, _%_, max}
 use mathlib.Core.Bool.{true, false}
 use mathlib.Core.List.{List, [], _∷_, _++_}
 use lib.Dec.{eqb, ltb}
-use lib.ListN.{drop, replicate}
+use lib.ListN.{length, drop, replicate}
 use Rattle.rules.specs.Base.{if_then_else_, bytes}
 use Rattle.rules.specs.Listing.{hex4}
 
@@ -13,6 +13,10 @@ spaces n = replicate n 32
 
 abbrev pub gap : ℕ → ℕ → ℕ
 gap at column = max (column - at) 1
+
+-- a text, and spaces behind it up to a column
+unfoldable pub padded : ℕ → List ℕ → List ℕ
+padded column t = t ++ spaces (gap (length t) column)
 
 -- the decimal digits of n, the most significant first: none before the first but where n is 0. The first number is how many steps there are at most.
 unfoldable pub digitsIn : ℕ → ℕ → List ℕ

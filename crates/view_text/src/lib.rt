@@ -1,6 +1,7 @@
 // A line of text for a terminal, written from the front into a lent buffer; what does not fit is left out.
 ghost use mathlib.Core.Path.{_≡_};
 ghost use mathlib.Core.List.{[], _∷_};
+ghost use Prim.Native.Nat.{_-_};
 ghost use Rattle.rules.specs.Listing.{lf};
 ghost use Rattle.list_lines.specs.Appended.{written};
 ghost use Rattle.view_text.specs.Put.{fitting, Put};
@@ -31,21 +32,32 @@ pub fn put(out: &mut [u8], at: usize, text: &[u8]) -> usize
     end
 }
 
-// How many spaces lead up to a column, one at least.
-fn gap_to(at: usize, column: usize) -> usize
-    ensures { λ r. ⌜ r ≡ gap at column ⌝ }
+// How many bytes there are from a line's start up to a place.
+fn distance(start: usize, at: usize) -> usize
+    ensures { λ r. ⌜ r ≡ at - start ⌝ }
 {
-    if at < column {
-        return column - at;
+    if start < at {
+        return at - start;
+    }
+    0
+}
+
+// How many spaces lead up to a column of the line that begins at `start`, one at least.
+fn gap_to(start: usize, at: usize, column: usize) -> usize
+    ensures { λ r. ⌜ r ≡ gap (at - start) column ⌝ }
+{
+    let used = distance(start, at);
+    if used < column {
+        return column - used;
     }
     1
 }
 
-// Spaces up to a column, one at least.
-pub fn put_spaces(out: &mut [u8], at: usize, column: usize) -> usize
-    ensures { λ r. ⌜ Put (now (out .entry)) (now (out .exit)) at r (spaces (gap at column)) ⌝ }
+// Spaces up to a column of the line that begins at `start`, one at least.
+pub fn put_spaces(out: &mut [u8], start: usize, at: usize, column: usize) -> usize
+    ensures { λ r. ⌜ Put (now (out .entry)) (now (out .exit)) at r (spaces (gap (at - start) column)) ⌝ }
 {
-    let n = gap_to(at, column);
+    let n = gap_to(start, at, column);
     let mut i = 0;
     let mut end = at;
     while i < n {
@@ -81,12 +93,17 @@ pub fn put_count(out: &mut [u8], at: usize, n: u64, what: &[u8]) -> usize
 }
 
 // An x and four hexadecimal digits.
+pub fn hex_text(v: u16) -> [u8; 5]
+    ensures { λ r. ⌜ r ≡ hexText v ⌝ }
+{
+    let digits = list_lines::hex4_of(v);
+    [b'x', digits[0], digits[1], digits[2], digits[3]]
+}
+
 pub fn put_hex(out: &mut [u8], at: usize, v: u16) -> usize
     ensures { λ r. ⌜ Put (now (out .entry)) (now (out .exit)) at r (hexText v) ⌝ }
 {
-    let digits = list_lines::hex4_of(v);
-    let next = put_byte(out, at, b'x');
-    put(out, next, &digits)
+    put(out, at, &hex_text(v))
 }
 
 // An x and two hexadecimal digits.

@@ -1,20 +1,27 @@
-// A word of an object as a person sees it on a terminal: its address, itself, its label and its disassembly.
+// A word of an object as a person sees it, as text in a lent buffer: its address, itself, its label and its disassembly; and the label rows at an address.
+ghost use mathlib.Core.Path.{_≡_};
+ghost use mathlib.Core.Option.{some};
+ghost use Prim.Native.Nat.{_+_, _-_, _*_, _%_};
+ghost use lib.ListN.{getD};
+ghost use Rattle.view_text.specs.Put.{Put};
+ghost use Rattle.view_instruction.specs.Spelled.{reached};
+ghost use Rattle.view_word.specs.Labels.{definedRow, standsAt, labelAt, later, lastAt, relocates, relocAt, nameText, labelLine, ownLine, ownLines};
+ghost use Rattle.view_word.specs.Words.{front, labelBehind, reachedNote, charNote, noteBy, beside, setLine, unsetLine, waitingLine};
 use base_capacities::DEFINED;
+use base_capacities::LABEL_ADDRESS;
+use base_capacities::LABEL_CELLS;
 use base_capacities::LABEL_FLAG;
+use base_capacities::RELOCATION_CELLS;
 use base_casts::word32;
 use std::num::wrapping_add_u16;
-use std::num::wrapping_add_usize;
 use view_instruction::Reach;
-use view_text::print_line;
 use view_text::put;
 use view_text::put_byte;
 use view_text::put_hex;
 use view_text::put_spaces;
 
-// A label's row begins at its number shifted so far, and a relocation's.
-pub const LABEL_SHIFT: usize = 2;
-
-pub const RELOCATION_SHIFT: usize = 1;
+// A relocation's row begins with its address.
+const RELOCATION_ADDRESS: usize = 0;
 
 // The columns of words, labels, instructions and what is noted beside them.
 const WORD_COLUMN: usize = 7;
@@ -25,36 +32,56 @@ const INSTRUCTION_COLUMN: usize = 32;
 
 const NOTE_COLUMN: usize = 52;
 
-// Room for a label's own line, and for a word's.
-const LABEL_LINE_BYTES: usize = 128;
-
-const LINE_BYTES: usize = 256;
-
 // The characters that are shown: from the space up to the last before DEL.
 const FIRST_SHOWN: u16 = b' ' as u16;
 
 const PAST_SHOWN: u16 = 127;
 
-// The number at a place; 0 past the end.
-pub fn cell_at(cells: &[u32], i: usize) -> u32 {
-    if i < cells.len() {
-        return cells[i];
+// Cell i of label row k, and of relocation k; 0 past the end.
+pub fn label_cell(labels: &[u32], k: usize, i: usize) -> u32
+    ensures { λ r. ⌜ r ≡ getD (now (labels .entry)) (k * 4 + i) 0 ⌝ }
+{
+    if labels.len() / LABEL_CELLS < k {
+        return 0;
+    }
+    let row = k * LABEL_CELLS;
+    if i < labels.len() - row {
+        return labels[row + i];
+    }
+    0
+}
+
+pub fn relocation_cell(relocations: &[u32], k: usize, i: usize) -> u32
+    ensures { λ r. ⌜ r ≡ getD (now (relocations .entry)) (k * 2 + i) 0 ⌝ }
+{
+    if relocations.len() / RELOCATION_CELLS < k {
+        return 0;
+    }
+    let row = k * RELOCATION_CELLS;
+    if i < relocations.len() - row {
+        return relocations[row + i];
     }
     0
 }
 
 // Whether label row k is defined.
-pub fn is_defined(labels: &[u32], k: usize) -> bool {
-    cell_at(labels, wrapping_add_usize(k << LABEL_SHIFT, LABEL_FLAG)) == DEFINED
+pub fn is_defined(labels: &[u32], k: usize) -> bool
+    ensures { λ r. ⌜ r ≡ definedRow (now (labels .entry)) k ⌝ }
+{
+    label_cell(labels, k, LABEL_FLAG) == DEFINED
 }
 
 // Whether label row k is defined at an address.
-fn stands_at(labels: &[u32], k: usize, address: u16) -> bool {
-    is_defined(labels, k) & (cell_at(labels, k << LABEL_SHIFT) == word32(address))
+fn stands_at(labels: &[u32], k: usize, address: u16) -> bool
+    ensures { λ r. ⌜ r ≡ standsAt (now (labels .entry)) address k ⌝ }
+{
+    is_defined(labels, k) & (label_cell(labels, k, LABEL_ADDRESS) == word32(address))
 }
 
 // The first of n label rows that is defined at an address; n where there is none.
-fn label_row(labels: &[u32], n: usize, address: u16) -> usize {
+fn label_row(labels: &[u32], n: usize, address: u16) -> usize
+    ensures { λ r. ⌜ r ≡ labelAt (now (labels .entry)) n address ⌝ }
+{
     let mut row = 0;
     while row < n {
         if stands_at(labels, row, address) {
@@ -65,61 +92,147 @@ fn label_row(labels: &[u32], n: usize, address: u16) -> usize {
     n
 }
 
-// The first of n relocations at an address; n where there is none.
-pub fn relocation_row(relocations: &[u32], n: usize, address: u16) -> usize {
-    let mut row = 0;
-    while row < n {
-        if cell_at(relocations, row << RELOCATION_SHIFT) == word32(address) {
-            return row;
-        }
-        row += 1;
+// Label row k if it is defined at an address, else the last row that was.
+fn later_row(labels: &[u32], k: usize, address: u16, last: usize) -> usize
+    ensures { λ r. ⌜ r ≡ later (now (labels .entry)) address k last ⌝ }
+{
+    if stands_at(labels, k, address) {
+        return k;
     }
-    n
+    last
 }
 
-// The name of a label row, of which there are n.
-fn put_name(out: &mut [u8], at: usize, labels: &[u32], names: &[u8], k: usize, n: usize) -> usize {
-    if k < n {
-        return put(out, at, object::label_name(labels, names, k));
-    }
-    at
-}
-
-// A label's own line, if it is one of n.
-fn print_label(labels: &[u32], names: &[u8], k: usize, n: usize, address: u16) {
-    if k < n {
-        let mut out = [0u8; LABEL_LINE_BYTES];
-        let a = put_hex(&mut out, 0, address);
-        let b = put_spaces(&mut out, a, LABEL_COLUMN);
-        let c = put_name(&mut out, b, labels, names, k, n);
-        print_line(&mut out, c);
-    }
-}
-
-// The lines of all but the last label at an address; the last one's row, or n where there is none.
-pub fn print_labels(labels: &[u32], names: &[u8], n: usize, address: u16) -> usize {
+// The last of n label rows that is defined at an address; n where there is none.
+pub fn last_row(labels: &[u32], n: usize, address: u16) -> usize
+    ensures { λ r. ⌜ r ≡ lastAt (now (labels .entry)) n address n ⌝ }
+{
     let mut last = n;
     let mut row = 0;
     while row < n {
-        if stands_at(labels, row, address) {
-            print_label(labels, names, last, n, address);
-            last = row;
-        }
+        last = later_row(labels, row, address, last);
         row += 1;
     }
     last
 }
 
-// A character, where a word is one.
-fn put_char(out: &mut [u8], at: usize, word: u16) -> usize {
+// Whether relocation k is at an address.
+fn relocates_at(relocations: &[u32], k: usize, address: u16) -> bool
+    ensures { λ r. ⌜ r ≡ relocates (now (relocations .entry)) address k ⌝ }
+{
+    relocation_cell(relocations, k, RELOCATION_ADDRESS) == word32(address)
+}
+
+// The first of n relocations at an address; n where there is none.
+pub fn relocation_row(relocations: &[u32], n: usize, address: u16) -> usize
+    ensures { λ r. ⌜ r ≡ relocAt (now (relocations .entry)) n address ⌝ }
+{
+    let mut row = 0;
+    while row < n {
+        if relocates_at(relocations, row, address) {
+            return row;
+        }
+        row += 1;
+    }
+    n
+}
+
+// The name of label row k of n; no name past them.
+fn name_of<'a>(labels: &[u32], names: &'a [u8], n: usize, k: usize) -> &'a [u8]
+    ensures { λ r. ⌜ now r ≡ nameText (now (labels .entry)) (now (names .entry)) n k ⌝ }
+{
+    if k < n {
+        return object::label_name(labels, names, k);
+    }
+    &names[0..0]
+}
+
+// A label's own line.
+fn put_label(out: &mut [u8], at: usize, address: u16, name: &[u8]) -> usize
+    ensures { λ r. ⌜ Put (now (out .entry)) (now (out .exit)) at r (labelLine address (now (name .entry))) ⌝ }
+{
+    let a = put_hex(out, at, address);
+    let b = put_spaces(out, at, a, LABEL_COLUMN);
+    let c = put(out, b, name);
+    put_byte(out, c, b'\n')
+}
+
+// Label row k, if it is defined at an address and is not the row that the word's line shows.
+fn put_own(
+    out: &mut [u8],
+    at: usize,
+    labels: &[u32],
+    names: &[u8],
+    address: u16,
+    shown: usize,
+    k: usize,
+) -> usize
+    ensures { λ r. ⌜ Put (now (out .entry)) (now (out .exit)) at r (ownLine (now (labels .entry)) (now (names .entry)) address shown k) ⌝ }
+{
+    if stands_at(labels, k, address) {
+        if k == shown {
+            return at;
+        }
+        return put_label(out, at, address, object::label_name(labels, names, k));
+    }
+    at
+}
+
+// The lines of the labels at an address, of n rows, but of the row that the word's line shows.
+pub fn put_labels(
+    out: &mut [u8],
+    at: usize,
+    labels: &[u32],
+    names: &[u8],
+    n: usize,
+    address: u16,
+    shown: usize,
+) -> usize
+    ensures { λ r. ⌜ Put (now (out .entry)) (now (out .exit)) at r (ownLines (now (labels .entry)) (now (names .entry)) address shown n) ⌝ }
+{
+    let mut end = at;
+    let mut row = 0;
+    while row < n {
+        end = put_own(out, end, labels, names, address, shown, row);
+        row += 1;
+    }
+    end
+}
+
+// What stands before the column of instructions.
+fn put_front(out: &mut [u8], at: usize, address: u16, shown: &[u8], name: &[u8]) -> usize
+    ensures { λ r. ⌜ Put (now (out .entry)) (now (out .exit)) at r (front address (now (shown .entry)) (now (name .entry))) ⌝ }
+{
+    let a = put_hex(out, at, address);
+    let b = put_spaces(out, at, a, WORD_COLUMN);
+    let c = put(out, b, shown);
+    let d = put_spaces(out, at, c, LABEL_COLUMN);
+    let e = put(out, d, name);
+    put_spaces(out, at, e, INSTRUCTION_COLUMN)
+}
+
+// A character, where a word is one, in the line that begins at `start`.
+fn put_char(out: &mut [u8], start: usize, at: usize, word: u16) -> usize
+    ensures { λ r. ⌜ Put (now (out .entry)) (now (out .exit)) at r (beside (at - start) (charNote word)) ⌝ }
+{
     if word < FIRST_SHOWN {
         return at;
     }
     if word < PAST_SHOWN {
-        let a = put_spaces(out, at, NOTE_COLUMN);
+        let a = put_spaces(out, start, at, NOTE_COLUMN);
         let b = put(out, a, b"; '");
-        let c = put_byte(out, b, word as u8);
+        let c = put_byte(out, b, base_casts::byte(word));
         return put_byte(out, c, b'\'');
+    }
+    at
+}
+
+// A space and the name of a label row, if it is one of n.
+fn put_behind(out: &mut [u8], at: usize, labels: &[u32], names: &[u8], n: usize, k: usize) -> usize
+    ensures { λ r. ⌜ Put (now (out .entry)) (now (out .exit)) at r (labelBehind (now (labels .entry)) (now (names .entry)) n k) ⌝ }
+{
+    if k < n {
+        let a = put_byte(out, at, b' ');
+        return put(out, a, name_of(labels, names, n, k));
     }
     at
 }
@@ -127,93 +240,102 @@ fn put_char(out: &mut [u8], at: usize, word: u16) -> usize {
 // The address that an instruction reaches, with its label.
 fn put_reached(
     out: &mut [u8],
+    start: usize,
     at: usize,
     labels: &[u32],
     names: &[u8],
     n: usize,
     target: u16,
-) -> usize {
-    let a = put_spaces(out, at, NOTE_COLUMN);
+) -> usize
+    ensures { λ r. ⌜ Put (now (out .entry)) (now (out .exit)) at r (beside (at - start) (some (reachedNote (now (labels .entry)) (now (names .entry)) n target))) ⌝ }
+{
+    let a = put_spaces(out, start, at, NOTE_COLUMN);
     let b = put(out, a, b"; ");
     let c = put_hex(out, b, target);
-    let row = label_row(labels, n, target);
-    if row < n {
-        let d = put_byte(out, c, b' ');
-        return put_name(out, d, labels, names, row, n);
-    }
-    c
+    put_behind(out, c, labels, names, n, label_row(labels, n, target))
 }
 
-// A set word's disassembly, and what it reaches or which character it is.
-fn put_word(
+// The address so far from the word behind this one.
+fn target_of(address: u16, d: u16) -> u16
+    ensures { λ r. ⌜ r ≡ (address + 1 + d) % 65536 ⌝ }
+{
+    wrapping_add_u16(wrapping_add_u16(address, 1), d)
+}
+
+// What a word's instruction reaches, or which character the word is.
+fn put_note(
     out: &mut [u8],
+    start: usize,
     at: usize,
     labels: &[u32],
     names: &[u8],
     n: usize,
     address: u16,
     word: u16,
-) -> usize {
-    let line = isa::disassembly::disassemble_line(word);
-    let end = view_instruction::put_line(out, at, line);
-    match view_instruction::line_reach(line) {
-        Reach::Offset(d) => {
-            let target = wrapping_add_u16(wrapping_add_u16(address, 1), d);
-            put_reached(out, end, labels, names, n, target)
-        }
-        Reach::Nothing => put_char(out, end, word),
+    reach: Reach,
+) -> usize
+    ensures { λ r. ⌜ Put (now (out .entry)) (now (out .exit)) at r (beside (at - start) (noteBy (now (labels .entry)) (now (names .entry)) n address word (reached reach))) ⌝ }
+{
+    match reach {
+        Reach::Offset(d) => { put_reached(out, start, at, labels, names, n, target_of(address, d)) }
+        Reach::Nothing => put_char(out, start, at, word),
     }
 }
 
-// An address and the column of words.
-fn put_address(out: &mut [u8], address: u16) -> usize {
-    let a = put_hex(out, 0, address);
-    put_spaces(out, a, WORD_COLUMN)
-}
-
-// The column of labels, and that of instructions.
-fn put_label(out: &mut [u8], at: usize, labels: &[u32], names: &[u8], k: usize, n: usize) -> usize {
-    let a = put_spaces(out, at, LABEL_COLUMN);
-    let b = put_name(out, a, labels, names, k, n);
-    put_spaces(out, b, INSTRUCTION_COLUMN)
-}
-
 // The line of a word that is set, with label row k of n.
-pub fn print_set(labels: &[u32], names: &[u8], k: usize, n: usize, address: u16, word: u16) {
-    let mut out = [0u8; LINE_BYTES];
-    let a = put_address(&mut out, address);
-    let b = put_hex(&mut out, a, word);
-    let c = put_label(&mut out, b, labels, names, k, n);
-    let d = put_word(&mut out, c, labels, names, n, address, word);
-    print_line(&mut out, d);
+pub fn put_set(
+    out: &mut [u8],
+    at: usize,
+    labels: &[u32],
+    names: &[u8],
+    n: usize,
+    k: usize,
+    address: u16,
+    word: u16,
+) -> usize
+    ensures { λ r. ⌜ Put (now (out .entry)) (now (out .exit)) at r (setLine (now (labels .entry)) (now (names .entry)) n k address word) ⌝ }
+{
+    let line = isa::disassembly::disassemble_line(word);
+    let reach = view_instruction::line_reach(line);
+    let shown = view_text::hex_text(word);
+    let a = put_front(out, at, address, &shown, name_of(labels, names, n, k));
+    let b = view_instruction::put_line(out, a, line);
+    let c = put_note(out, at, b, labels, names, n, address, word, reach);
+    put_byte(out, c, b'\n')
 }
 
 // The line of a word that a .blkw leaves unset.
-pub fn print_unset(labels: &[u32], names: &[u8], k: usize, n: usize, address: u16) {
-    let mut out = [0u8; LINE_BYTES];
-    let a = put_address(&mut out, address);
-    let b = put(&mut out, a, b"-");
-    let c = put_label(&mut out, b, labels, names, k, n);
-    let d = put(&mut out, c, b".blkw, not set");
-    print_line(&mut out, d);
+pub fn put_unset(
+    out: &mut [u8],
+    at: usize,
+    labels: &[u32],
+    names: &[u8],
+    n: usize,
+    k: usize,
+    address: u16,
+) -> usize
+    ensures { λ r. ⌜ Put (now (out .entry)) (now (out .exit)) at r (unsetLine (now (labels .entry)) (now (names .entry)) n k address) ⌝ }
+{
+    let a = put_front(out, at, address, b"-", name_of(labels, names, n, k));
+    put(out, a, b".blkw, not set\n")
 }
 
 // The line of a word that waits for the address of an external label.
-pub fn print_waiting(
+pub fn put_waiting(
+    out: &mut [u8],
+    at: usize,
     labels: &[u32],
     names: &[u8],
-    k: usize,
     n: usize,
+    k: usize,
     address: u16,
     external: usize,
-) {
-    let mut out = [0u8; LINE_BYTES];
-    let a = put_address(&mut out, address);
-    let b = put_hex(&mut out, a, 0);
-    let c = put_label(&mut out, b, labels, names, k, n);
-    let d = put(&mut out, c, b".fill ");
-    let e = put_name(&mut out, d, labels, names, external, n);
-    let f = put_spaces(&mut out, e, NOTE_COLUMN);
-    let g = put(&mut out, f, b"; external, known after a link");
-    print_line(&mut out, g);
+) -> usize
+    ensures { λ r. ⌜ Put (now (out .entry)) (now (out .exit)) at r (waitingLine (now (labels .entry)) (now (names .entry)) n k address external) ⌝ }
+{
+    let a = put_front(out, at, address, b"x0000", name_of(labels, names, n, k));
+    let b = put(out, a, b".fill ");
+    let c = put(out, b, name_of(labels, names, n, external));
+    let d = put_spaces(out, at, c, NOTE_COLUMN);
+    put(out, d, b"; external, known after a link\n")
 }

@@ -1,11 +1,13 @@
--- `view_word::relocation_row` is safe and ends. Assumes nothing.
+-- `view_word::relocation_row` meets its contract. Assumes nothing.
 use Prim.Native.Nat.{_-_}
+use Rattle.view_word.specs.Labels.{relocates}
+use Rattle.view_word.proofs.Seeking.{Seeking, seek-start, seek-on, seek-found, seek-none}
 use borrow.Author.Needs.{needs}
 use Rattle.view_word.proofs.relocation_row.Statement.{statement}
 use Rattle.view_word.proofs.relocation_row.Tie as tie
 
 abbrev Inv-loop : tie.InvT-loop
-Inv-loop relocations n address row₀ row = Unit {0}
+Inv-loop relocations n address row₀ row = Seeking (relocates relocations address) n row
 
 abbrev μ-loop : tie.MeasureT-loop
 μ-loop relocations n address row₀ row = n - row
@@ -16,11 +18,10 @@ relocation-row-spec =
     (tie.spec
     Inv-loop
     μ-loop
-    (λ c. search needs)
+    (λ c. search (needs, seek-start))
     (λ c κs. search needs)
-    (λ c κs. search needs)
+    (λ c. search (needs, seek-found))
     (λ c. search needs)
     (λ c. search needs)
-    (λ c. search needs)
-    (λ c. search needs)
-    (λ c. search needs))
+    (λ c. search (needs, seek-on))
+    (λ c. search (needs, seek-none)))

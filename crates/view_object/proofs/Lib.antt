@@ -1,0 +1,3 @@
+-- Laws that the proofs of `view_object` cite. Assumes nothing.
+pub mod Rows
+pub mod Lines

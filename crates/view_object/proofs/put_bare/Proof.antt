@@ -1,0 +1,19 @@
+-- `view_object::put_bare` meets its contract. Assumes nothing.
+use Rattle.view_object.proofs.Lines.{bare-put}
+use borrow.Author.Needs.{needs}
+use Rattle.view_object.proofs.put_bare.Statement.{statement}
+use Rattle.view_object.proofs.put_bare.Tie as tie
+
+pub put-bare-spec : {M : Type 1} → statement M
+put-bare-spec =
+    tie.close
+    (tie.spec
+    (λ c. search needs)
+    (λ c κs. search needs)
+    (λ c κs. search needs)
+    (λ c κs. search needs)
+    (λ c κs. search needs)
+    (λ c. search needs)
+    (λ c κs. search needs)
+    (λ c. search needs)
+    (λ c. bare-put _ _ (c .before .before .before .before .before .before .before .before .before .before .before .before .before .before .before .before .before .before .before .put .ensures) (c .before .before .before .before .before .before .before .before .before .before .before .before .before .before .before .put-hex .ensures) (c .before .before .before .before .before .before .before .before .before .before .before .put-byte .ensures) (c .before .before .before .before .before .before .before .put2 .ensures) (c .before .before .put3 .ensures)))
