@@ -4,19 +4,20 @@ use mathlib.Core.Path.{_≡_, refl, sym, _∙_, ap}
 use mathlib.Core.Bool.{Bool, true, false}
 use mathlib.Core.List.{List, [], _∷_, map}
 use mathlib.Core.Option.{Option, none, some}
-use native.Mathlib.Decide.{decLt}
+use native.Mathlib.Decide.{decLt, decLe}
 use native.Mathlib.Omega.{arith}
 use borrow.Author.Tests.{le-leb, lt-leb}
 use lib.Dec.{leb}
-use lib.ListN.{length, getD}
+use lib.ListN.{length, getD, take, drop}
 use Rattle.rules.specs.Base.{if_then_else_, Outcome, ok, refused, Span, span, nowhere}
-use Rattle.rules.specs.Tokens.{Kind, Token, nextToken, upper}
+use Rattle.rules.specs.Tokens.{Kind, Token, tokenIn, directive, nextToken, upper}
 use Rattle.rules.specs.Words.{Field, Row, find, instructions, directives}
-use Rattle.rules.specs.Statements.{Name, asWord, asDirective, pastLines, pastLabels, pastLabel, labelsAt, nameAt}
-use Rattle.rules.proofs.Ahead.{names-on, names-done, label-in}
+use Rattle.rules.specs.Statements.{Name, isMark, asWord, asDirective, pastLines, pastLabels, pastLabel, labelsAt, nameAt}
+use Rattle.rules.proofs.Ahead.{token-ends, names-on, names-done, label-in}
 use Rattle.lex_token.specs.Meant.{part, kindAt}
 use Rattle.lex_token.specs.declared.Lexeme.{Lexeme}
 use Rattle.lex_token.specs.Flat.{faultSort}
+use Rattle.lex.specs.Label.{labelText}
 use Rattle.lex.specs.Sorts.{nameOf, kindBy, noRow, Stands, NoFault}
 use Rattle.parse_field.specs.Coded.{fieldOf}
 use Rattle.parse_field.specs.declared.Field as code
@@ -32,7 +33,7 @@ use Rattle.view_due.specs.declared.Due.{Due}
 use Rattle.view_due.specs.declared.Due.the-variants.{Statement, Directive, Comma, LineEnd, Operand}
 use Rattle.view_due.specs.declared.Onward as step
 use Rattle.view_due.specs.declared.Onward.the-variants as go
-use Rattle.view_due.specs.Wanted.{Wanted, statement, directive, comma, lineEnd, operand, startAt, endAt, found, next, operandOr, dueFrom, rowOf, dueBehind, dueHead, dueBy, dueAt, lastPlace, labelBefore}
+use Rattle.view_due.specs.Wanted.{Wanted, statement, comma, lineEnd, operand, startAt, endAt, found, next, operandOr, dueFrom, rowOf, dueBehind, dueHead, dueBy, dueAt, lastPlace, labelBefore}
 use Rattle.view_due.specs.Coded.{meant, onward, Coded, Coding}
 
 -- A TOKEN'S PLACE
@@ -116,15 +117,38 @@ module _ (s : List ℕ) (t : Lexeme) where
         unknown = λ m. absurd (omega (arith, l, q));
       }
 
-  pub code-directive : (n : List ℕ) {v : ℕ} → t .sort ≡ 6 → n ≡ part s (t .start + 1) (t .end) → v ≡ codeFrom 32 (map upper n) directives → (i : ℕ) → Stands s i t → Coding (rowOf (kindBy s (t .sort) t)) v
-  unfolding rowOf asDirective kindAt
-  code-directive n {v} e p q i h =
-      let z : v ≡ codeFrom 32 (map upper (part s (t .start + 1) (t .end))) directives = rw p at q in
-      let r : rowOf (kindBy s (t .sort) t) ≡ find (map upper (part s (t .start + 1) (t .end))) directives = rw e refl in
+  -- a directive's name behind its dot lies in the source
+  directive-kind : t .sort ≡ 6 → kindBy s (t .sort) t ≡ directive (map upper (part s (t .start + 1) (t .end)))
+  unfolding kindAt
+  directive-kind e = rw e refl
+
+  directive-in : t .sort ≡ 6 → (i : ℕ) → Stands s i t → t .end ≤ length s
+  unfolding isMark
+  directive-in e i h = token-ends s i (tokenIn (kindBy s (t .sort) t) (span (t .start) (t .end))) (h .token (omega arith)) .most (ap (isMark 0) (directive-kind e))
+
+  directive-name : (a : ℕ) → t .end ≤ length s → labelText s a (t .end) ≡ part s a (t .end)
+  unfolding labelText part if_then_else_
+  directive-name a l = rw (le-leb (t .end) (length s) l) (go′ (decLe a (t .end)))
+    where
+      go′ : Dec (a ≤ t .end) → (if leb a (t .end) then take (t .end - a) (drop a s) else []) ≡ take (t .end - a) (drop a s)
+      go′ (yes m) = rw (le-leb a (t .end) m)
+      go′ (no m) = let z : t .end - a ≡ 0 = omega arith in rw (lt-leb a (t .end) (omega arith), z)
+
+  directive-coded : {v : ℕ} → t .sort ≡ 6 → v ≡ codeFrom 32 (map upper (part s (t .start + 1) (t .end))) directives → Coding (rowOf (kindBy s (t .sort) t)) v
+  unfolding rowOf asDirective
+  directive-coded {v} e z =
+      let r : rowOf (kindBy s (t .sort) t) ≡ find (map upper (part s (t .start + 1) (t .end))) directives = rw (directive-kind e) refl in
       record {
         known = λ m. (let f : Found (map upper (part s (t .start + 1) (t .end))) v directives = directive-found (map upper (part s (t .start + 1) (t .end))) v z m in record { row = f .row; is = r ∙ f .is; means = f .means });
         unknown = λ m. r ∙ directive-missed (map upper (part s (t .start + 1) (t .end))) v z m;
       }
+
+  pub code-directive : (n : List ℕ) {v : ℕ} → t .sort ≡ 6 → n ≡ labelText s (t .start + 1) (t .end) → v ≡ codeFrom 32 (map upper n) directives → (i : ℕ) → Stands s i t → Coding (rowOf (kindBy s (t .sort) t)) v
+  code-directive n e p q i h = directive-coded e (q ∙ ap (λ (l : List ℕ). codeFrom 32 (map upper l) directives) (p ∙ directive-name (t .start + 1) (directive-in e i h)))
+
+  pub code-nameless : t .sort ≡ 6 → t .end ≤ t .start → (i : ℕ) → Stands s i t → Coding (rowOf (kindBy s (t .sort) t)) 38
+  unfolding part codeFrom directives if_then_else_
+  code-nameless e l i h = directive-coded e (let z : t .end - (t .start + 1) ≡ 0 = omega arith in rw z refl)
 
   no-row : (k : ℕ) → (k ≡ 5 → ⊥) → (k ≡ 6 → ⊥) → (k ≡ 3 → find (nameOf s t) instructions ≡ none) → rowOf (kindBy s k t) ≡ none
   unfolding rowOf asDirective asWord kindAt

@@ -7,11 +7,10 @@ use parse_labels::NextLabel;
 use parse_rows::Row;
 ghost use mathlib.Core.Path.{_≡_};
 ghost use mathlib.Core.List.{[], _∷_};
-ghost use Prim.Native.Nat.{ℕ, _+_, _≤_};
+ghost use Prim.Native.Nat.{ℕ, _≤_};
 ghost use lib.ListN.{length};
 ghost use Rattle.rules.specs.Base.{nowhere};
 ghost use Rattle.rules.specs.Statements.{labelsAt};
-ghost use Rattle.lex_token.specs.Meant.{part};
 ghost use Rattle.lex.specs.Sorts.{kindBy, Stands};
 ghost use Rattle.parse_field.specs.Coded.{fieldOf};
 ghost use Rattle.parse_rows.specs.Rows.{fieldsBy};
@@ -104,23 +103,6 @@ fn due_row(src: &[u8], row: Row, at: usize, place: usize) -> Due
     due_three(src, first, second, third, at, place)
 }
 
-// A directive's name: the part of the source after the dot.
-fn name_after(src: &[u8], dot: usize, end: usize) -> &[u8]
-    ensures { λ r. ⌜ now r ≡ part (now (src .entry)) (dot + 1) end ⌝ }
-{
-    if src.len() <= dot {
-        return &src[0..0];
-    }
-    let start = dot + 1;
-    if src.len() < end {
-        return &src[start..];
-    }
-    if end < start {
-        return &src[0..0];
-    }
-    &src[start..end]
-}
-
 // The place in the table of rows of the instruction or directive that this token is, or ROWS where it is none.
 fn row_code(src: &[u8], t: Lexeme) -> usize
     ensures { λ r. ⌜ ((i : ℕ) → Stands (now (src .entry)) i t → Coding (rowOf (kindBy (now (src .entry)) (t .sort) t)) r) ⌝ }
@@ -129,7 +111,10 @@ fn row_code(src: &[u8], t: Lexeme) -> usize
         return wide16(t.value);
     }
     if t.sort == lex_token::DIRECTIVE {
-        return parse_rows::directive_code(name_after(src, t.start, t.end));
+        if t.start < t.end {
+            return parse_rows::directive_code(lex::label_text(src, t.start + 1, t.end));
+        }
+        return parse_rows::ROWS;
     }
     parse_rows::ROWS
 }

@@ -4,8 +4,8 @@ use mathlib.Core.Path.{_≡_}
 use Rattle.rules.specs.Base.{span, nowhere}
 use Rattle.rules.specs.Statements.{labelsAt}
 use Rattle.view_due.specs.Wanted.{lastPlace}
-use Rattle.view_due.proofs.Dues.{label-done, label-less, label-more}
 use mathlib.Core.Path.{refl}
+use Rattle.view_due.proofs.Dues.{label-done, label-less, label-more}
 use lib.ListN.{length}
 use borrow.Author.Needs.{needs}
 use Rattle.view_due.proofs.last_label.Statement.{statement}
