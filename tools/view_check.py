@@ -32,13 +32,12 @@ def shown(text):
     return "".join(chr(b) if b == 9 or 32 <= b < 127 else "?" for b in text)
 
 
-def place_fault(src, start, end, word, lines):
-    """What is wrong with the lines of a place, if anything."""
+def place_fault(src, start, end, said, lines):
+    """What is wrong with the lines of a place, of which this is said, if anything."""
     first = src.rfind(b"\n", 0, start) + 1
     feed = src.find(b"\n", first)
     last = len(src) if feed < 0 else feed - src[first:feed].endswith(b"\r")
-    where = ", the end of the source" if start == len(src) else ", the end of the line" if start == last else ""
-    if lines[0] != "%sline %d, column %d%s:" % (word, src.count(b"\n", 0, start) + 1, start - first + 1, where):
+    if lines[0] != "source:%d:%d: %s" % (src.count(b"\n", 0, start) + 1, start - first + 1, said):
         return "place"
     if last - first > WIDTH:
         caret = len(lines[2]) - len(lines[2].lstrip())
@@ -49,15 +48,25 @@ def place_fault(src, start, end, word, lines):
     return None if right else "underline"
 
 
+def at_end(src, start):
+    if start == len(src):
+        return " (the end of the source)"
+    return " (the end of the line)" if src[start:start + 1] == b"\n" or src[start:start + 2] == b"\r\n" else ""
+
+
 def refusal_fault(src, number, name, places, view):
-    if not view[0].startswith("REFUSED %d %s: " % (number, name)):
+    found = re.match(r"source:(?:\d+:\d+:)? (REFUSED %d %s: (\w[^()]*\w))( \(.*\))?$" % (number, name), view[0])
+    if not found:
         return "heading"
     if number in (11, 41):
-        return None if view[1].startswith("no place") and len(view) == 3 else "no place"
+        return None if view[0] == "source: " + found.group(1) and view[1:] == [""] else "no place"
     start, end, start2, end2 = places
-    if len(view) != (8 if end2 else 5):
+    if number in (13, 14, 15) and not view.pop(3).startswith("note: "):
+        return "note"
+    if len(view) != (7 if end2 else 4):
         return "lines"
-    return place_fault(src, start, end, "", view[1:4]) or (end2 and place_fault(src, start2, end2, "and ", view[4:7])) or None
+    fault = place_fault(src, start, end, found.group(1) + at_end(src, start), view[:3])
+    return fault or (end2 and place_fault(src, start2, end2, "and here", view[3:6])) or None
 
 
 def object_fault(listing, view):

@@ -1,5 +1,5 @@
-// The marked examples P1 to P10 of document 01, each assembled, or two of them linked, and printed; then some sources explained: an object with everything that a view shows, and refusals in
-// places that are easy to underline wrongly.
+// The marked examples P1 to P10 of document 01, each assembled, or two of them linked, and printed; then some sources explained: an object with everything that a view shows, refusals in
+// places that are easy to underline wrongly, and each kind of note.
 use libc::STDOUT_FILENO;
 use object_answer::Answer;
 use object_answer::Written;
@@ -220,7 +220,55 @@ fn views() {
     );
 }
 
+// What a note says was due.
+fn notes() {
+    explain(
+        b"-- a register is due\n",
+        b".orig x3000\nADD R0, 5, R1\n.end\n",
+    );
+    explain(
+        b"-- a label or a number is due\n",
+        b".orig x3000\nSTART LD R0, R1\n.end\n",
+    );
+    explain(b"-- a number is due\n", b".orig x3000\nTRAP\n.end\n");
+    explain(b"-- a label is due\n", b".external 5\n");
+    explain(b"-- a string is due\n", b".orig x3000\n.stringz HI\n.end\n");
+    explain(
+        b"-- a number out of range\n",
+        b".orig x3000\nADD R0, R0, 16\n.end\n",
+    );
+    explain(
+        b"-- a negative number out of range\n",
+        b".orig x3000\nLDR R0, R1, x-21 ; far\n.end\n",
+    );
+    explain(
+        b"-- a comma is due\n",
+        b".orig x3000\nADD R0 R1, R2\n.end\n",
+    );
+    explain(
+        b"-- the end of the line is due\n",
+        b".orig x3000\nRET R7\n.end\n",
+    );
+    explain(
+        b"-- a directive that is none\n",
+        b".orig x3000\nHI .string \"hi\"\n.end\n",
+    );
+    explain(
+        b"-- an instruction that is none\n",
+        b".orig x3000\nLOOP MOV R0, R1\n.end\n",
+    );
+    explain(
+        b"-- a label with nothing after it\n",
+        b".orig x3000\nHALT\n.end\nLAST ; the end",
+    );
+    explain(
+        b"-- an instruction is due\n",
+        b".orig x3000\n, HALT\n.end\n",
+    );
+}
+
 fn main() {
     marked_examples();
     views();
+    notes();
 }

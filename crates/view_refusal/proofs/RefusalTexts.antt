@@ -16,6 +16,7 @@ use Rattle.view_text.proofs.Putting.{put-none, put-same, put-more}
 use Rattle.view_places.specs.Lines.{feeds, since, lineStart, lineStop}
 use Rattle.view_places.proofs.LineLaws.{feeds-few}
 use Rattle.view_line.specs.Shown.{underlined}
+use Rattle.view_note.specs.Notes.{noteText}
 use Rattle.view_refusal.specs.Meanings.{meaning}
 use Rattle.view_refusal.specs.Refusals.{title, positionText, endWords, headingText, placelessText, placed, secondText, placedText, refusalText}
 
@@ -111,8 +112,8 @@ unfolding refusalText if_then_else_
 refusal-whole file s n start end start2 end2 h p = rw (eq-eqb n 11 h) p
 
 pub placed-put :
-    (file s : List ℕ) (n start end start2 end2 : ℕ) {b c d f : List ℕ} {at j k e : ℕ}
-    → Put b c at j (headingText file s n start) → Put c d j k (underlined s start end) → Put d f k e (secondText file s start2 end2)
-    → Put b f at e (placedText file s n start end start2 end2)
+    (file s : List ℕ) (n start end start2 end2 : ℕ) {b c d f g : List ℕ} {at j k l e : ℕ}
+    → Put b c at j (headingText file s n start) → Put c d j k (underlined s start end) → Put d f k l (noteText s n start) → Put f g l e (secondText file s start2 end2)
+    → Put b g at e (placedText file s n start end start2 end2)
 unfolding placedText
-placed-put file s n start end start2 end2 p q r = put-more (put-more p q) r
+placed-put file s n start end start2 end2 p q r t = put-more (put-more (put-more p q) r) t

@@ -11,6 +11,7 @@ use Rattle.rules.specs.Listing.{lf}
 use Rattle.view_text.specs.Texts.{decimal}
 use Rattle.view_places.specs.Lines.{feeds, since, lineStart, lineStop}
 use Rattle.view_line.specs.Shown.{underlined}
+use Rattle.view_note.specs.Notes.{noteText}
 use Rattle.view_refusal.specs.Meanings.{meaning}
 
 -- its number, its name and what it means
@@ -45,9 +46,9 @@ unfoldable pub secondText : (file s : List ℕ) → (start end : ℕ) → List �
 secondText file s start end =
     if placed s start end then (positionText file s start ++ bytes "and here\n" ++ underlined s start end) else []
 
+-- the first place, with what was due there, and the second
 unfoldable pub placedText : (file s : List ℕ) → (n start end start2 end2 : ℕ) → List ℕ
-placedText file s n start end start2 end2 =
-    headingText file s n start ++ underlined s start end ++ secondText file s start2 end2
+placedText file s n start end start2 end2 = headingText file s n start ++ underlined s start end ++ noteText s n start ++ secondText file s start2 end2
 
 -- 11 is refused as a whole, and so is what has no place
 unfoldable pub refusalText : (file s : List ℕ) → (n start end start2 end2 : ℕ) → List ℕ

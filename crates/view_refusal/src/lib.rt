@@ -1,4 +1,4 @@
-// A refusal as a person reads it, as text in a lent buffer: the file, the line and the column, its number and name, what it means, and each of its places underlined.
+// A refusal as a person reads it, as text in a lent buffer: the file, the line and the column, its number and name, what it means, and each of its places underlined, with what was due there.
 ghost use mathlib.Core.Path.{_≡_};
 ghost use Prim.Native.Nat.{_≤_};
 ghost use lib.ListN.{length};
@@ -200,7 +200,7 @@ fn put_second(out: &mut [u8], at: usize, file: &[u8], src: &[u8], start: usize, 
     at
 }
 
-// A refusal with a place, and its second where there is one.
+// A refusal with a place: a note where something else was due there, and the second place where there is one.
 fn put_placed(
     out: &mut [u8],
     at: usize,
@@ -217,7 +217,8 @@ fn put_placed(
 {
     let a = put_heading(out, at, file, src, number, start);
     let b = view_line::put_underlined(out, a, src, start, end);
-    put_second(out, b, file, src, start2, end2)
+    let c = view_note::put_note(out, b, src, number, start);
+    put_second(out, c, file, src, start2, end2)
 }
 
 // A refusal of this source, of the file with this name. 11 is refused as a whole, and so is what has no place.

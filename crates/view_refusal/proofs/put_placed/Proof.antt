@@ -11,5 +11,6 @@ put-placed-spec =
     (λ c κs. search needs)
     (λ c κs. search needs)
     (λ c κs. search needs)
+    (λ c κs. search needs)
     (λ c. search needs)
-    (λ c. placed-put _ _ _ _ _ _ _ (c .before .before .before .before .before .before .before .before .before .before .put-heading .ensures) (c .before .before .before .before .before .before .put-underlined .ensures) (c .before .before .put-second .ensures)))
+    (λ c. placed-put _ _ _ _ _ _ _ (c .before .before .before .before .before .before .before .before .before .before .before .before .before .before .put-heading .ensures) (c .before .before .before .before .before .before .before .before .before .before .put-underlined .ensures) (c .before .before .before .before .before .before .put-note .ensures) (c .before .before .put-second .ensures)))

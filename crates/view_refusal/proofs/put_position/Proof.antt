@@ -1,6 +1,6 @@
 -- `view_refusal::put_position` meets its contract. Assumes nothing.
-use Rattle.view_refusal.proofs.RefusalTexts.{feeds-fit, position-put}
 use native.Mathlib.Omega.{arith}
+use Rattle.view_refusal.proofs.RefusalTexts.{feeds-fit, position-put}
 use borrow.Author.Needs.{needs}
 use Rattle.view_refusal.proofs.put_position.Statement.{statement}
 use Rattle.view_refusal.proofs.put_position.Tie as tie

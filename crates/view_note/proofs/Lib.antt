@@ -1,0 +1,2 @@
+-- Laws that the proofs of `view_note` cite. Assumes nothing.
+pub mod NoteTexts

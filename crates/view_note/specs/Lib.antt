@@ -1,0 +1,2 @@
+-- What the contracts of `view_note` cite. Assumes nothing.
+pub mod Notes
