@@ -2,6 +2,7 @@
 use mathlib.Core.Path.{_≡_, refl, sym, _∙_}
 use mathlib.Core.Bool.{Bool, true}
 use mathlib.Core.List.{List}
+use mathlib.Core.Logic.{inl, inr}
 use Prim.Native.Nat.{ℕ, _+_, _-_, _≤_, _<_}
 use native.Mathlib.Omega.{arith}
 use lib.ListN.{length, getD}
@@ -44,19 +45,19 @@ module _ {b : List ℕ} {last at start end : ℕ} where
 
 module _ {b : List ℕ} {last at : ℕ} where
   pub ends-none : LabelEnds b last at at
-  ends-none = record { named = λ n. absurd (n refl); fits = λ n. absurd (n refl) }
+  ends-none = record { tag = λ n. absurd (n refl); named = λ n. absurd (n refl); fits = λ n. absurd (n refl) }
 
   module _ {tag start end r : ℕ} (f : Stands b at tag start end) where
     pub ends-outer : tag ≡ 5 → EndsAbove b last at start end r → LabelEnds b last at r
     ends-outer e u =
         let s : start ≡ nameStart b at = f .begins ∙ start-other b at (λ x. omega (arith, x, e, heads b at tag start end f .tag)) in
-        record { named = λ n. rw (← s, u .ends n) (named-outer b at start end (rw e at f)); fits = λ n. rw (← s, u .ends n) (u .fits n) }
+        record { tag = λ n. inr (heads b at tag start end f .tag ∙ e); named = λ n. rw (← s, u .ends n) (named-outer b at start end (rw e at f)); fits = λ n. rw (← s, u .ends n) (u .fits n) }
 
     pub ends-defined : tag ≡ 4 → 2 ≤ end - start → EndsAbove b last at (start + 2) end r → LabelEnds b last at r
     ends-defined e l u =
         let h : start ≡ at + 3 = f .begins in
         let s : start + 2 ≡ nameStart b at = omega (arith, h, start-defined b at (heads b at tag start end f .tag ∙ e)) in
-        record { named = λ n. rw (← s, u .ends n) (named-defined b at start end (rw e at f) l); fits = λ n. rw (← s, u .ends n) (u .fits n) }
+        record { tag = λ n. inl (heads b at tag start end f .tag ∙ e); named = λ n. rw (← s, u .ends n) (named-defined b at start end (rw e at f) l); fits = λ n. rw (← s, u .ends n) (u .fits n) }
 
 -- it is there
 pub named-there : {b : List ℕ} {at start end : ℕ} → NamedAt b at start end → at + 3 ≤ length b

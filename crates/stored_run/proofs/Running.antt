@@ -76,21 +76,30 @@ part-empty : (b : List ℕ) (at : ℕ) → [] ≡ partAt b at (at - at)
 unfolding partAt
 part-empty b at = let z : at - at ≡ 0 = omega arith in rw z refl
 
+-- before the first label
+module _ {b places : List ℕ} {w : Walk} {s : State} (t : Tells b places w s) (z : (w .labels ≡ 0) × (w .owed ≡ 0) × (w .relocations ≡ 0)) where
+  named-none : w .named ≡ 0
+  named-none = omega (arith, t .named, t .labels, z .0, names-short [] (s .last) (s .labels) (t .checks .kept .names))
+
+  pub tells-none : Tells b places (behindLabels w (w .at) 0 0) s
+  tells-none =
+      subst (λ (k : ℕ). Tells b places (behindLabels w (w .at) 0 k) s) named-none
+      (subst (λ (k : ℕ). Tells b places (behindLabels w (w .at) k (w .named)) s) (z .0) t)
+
+  pub name-none : s .last ≡ partAt b (w .at) (w .at - w .at)
+  name-none = first-last t (z .0) ∙ part-empty b (w .at)
+
 pub running-none : {b places : List ℕ} {w : Walk} → Going b places w → (w .labels ≡ 0) × (w .owed ≡ 0) × (w .relocations ≡ 0) → Running b places places w (w .at) (w .at) 0 0
-running-none {b} {places} {w} g z =
-    let s = g .state in
-    let t = g .tells in
-    let e : w .named ≡ 0 = omega (arith, t .named, t .labels, z .0, names-short [] (s .last) (s .labels) (t .checks .kept .names)) in
-    record {
-      size = refl;
-      room = t .noted .room;
-      owed = z .1;
-      relocs = z .2;
-      further = omega arith;
-      state = s;
-      tells = subst (λ (k : ℕ). Tells b places (behindLabels w (w .at) 0 k) s) e (subst (λ (k : ℕ). Tells b places (behindLabels w (w .at) k (w .named)) s) (z .0) t);
-      name = first-last t (z .0) ∙ part-empty b (w .at);
-    }
+running-none g z = record {
+  size = refl;
+  room = g .tells .noted .room;
+  owed = z .1;
+  relocs = z .2;
+  further = omega arith;
+  state = g .state;
+  tells = tells-none (g .tells) z;
+  name = name-none (g .tells) z;
+}
 
 module _ {b old places : List ℕ} {w : Walk} {last at n m : ℕ} (f : Running b old places w last at n m) where
   pub running-stop : {r : Walk} → r ≡ behindLabels w at n m → Runs b old places w r

@@ -2,6 +2,7 @@
 use mathlib.Core.Path.{_≡_}
 use mathlib.Core.Bool.{true, false}
 use mathlib.Core.List.{List}
+use mathlib.Core.Logic.{_⊎_}
 use Prim.Native.Nat.{ℕ, _+_, _-_, _≤_}
 use lib.ListN.{length, getD}
 use lib.Dec.{eqb}
@@ -39,6 +40,7 @@ pub record EndsAbove (b : List ℕ) (last at start end r : ℕ) : Type 0 where
 
 -- r is `at`, or the end of the field of a label whose name may follow the one from `last` up to `at`
 pub record LabelEnds (b : List ℕ) (last at r : ℕ) : Type 0 where
+  pub tag : (r ≡ at → ⊥) → (getD b at 0 ≡ 4) ⊎ (getD b at 0 ≡ 5)
   pub named : (r ≡ at → ⊥) → NamedAt b at (nameStart b at) r
   pub fits : (r ≡ at → ⊥) → nameFits (partAt b last (at - last)) (partAt b (nameStart b at) (r - nameStart b at)) ≡ true
 
