@@ -3,3 +3,4 @@ pub mod Rest
 pub mod RunLaws
 pub mod NameLaws
 pub mod ByteLaws
+pub mod KeyLaws

@@ -1,11 +1,14 @@
 // Bytes of a source: their classes, upper case, the value of a digit, runs of a class, and names compared.
 ghost use mathlib.Core.Path.{_≡_};
 ghost use mathlib.Core.List.{map};
-ghost use lib.ListN.{getD};
+ghost use Prim.Native.Nat.{_+_, _≤_, _<_};
+ghost use lib.ListN.{length, getD};
 ghost use Rattle.rules.specs.Base.{same};
 ghost use Rattle.rules.specs.Tokens.{digit, letter, wordy, space, upper, value};
-ghost use Rattle.base_text.specs.Runs.{inClass, runEnd};
+ghost use Rattle.base_text.specs.Runs.{inClass, from, runEnd};
 ghost use Rattle.base_text.specs.Names.{ordered};
+ghost use Rattle.base_text.specs.Keys.{twoAt, fourAt, keyAt};
+use base_casts::long8;
 
 // 0 to 9.
 pub fn is_digit(b: u8) -> bool
@@ -189,11 +192,59 @@ pub fn compare_names(a: &[u8], b: &[u8]) -> Order
     }
 }
 
-// Two names as they stand, bytewise; a name goes before a longer one that it begins. For tables whose names are in upper case already, as those of objects are.
-pub fn compare_bytes(a: &[u8], b: &[u8]) -> Order
-    ensures { λ r. ⌜ r ≡ ordered (now (a .entry)) (now (b .entry)) ⌝ }
+// What two bytes, and what four, count in front of as many.
+const TWO_BYTES: u64 = 0x10000;
+
+const FOUR_BYTES: u64 = 0x1_0000_0000;
+
+// How many values a byte has.
+const BYTE: u64 = 0x100;
+
+// How many bytes a key has.
+const KEY_BYTES: usize = 8;
+
+// Two bytes as one number, the first the higher.
+fn two_at(s: &[u8], at: usize) -> u64
+    requires { ⌜ at + 2 ≤ length (now s) ⌝ }
+    ensures { λ r. ⌜ (r ≡ twoAt (now (s .entry)) at) × (r < 65536) ⌝ }
 {
-    let mut i = 0;
+    let next = at + 1;
+    long8(s[at]) * BYTE + long8(s[next])
+}
+
+// Four bytes. The last two stand in one sum with the others, so that one load reads them all.
+fn four_at(s: &[u8], at: usize) -> u64
+    requires { ⌜ at + 4 ≤ length (now s) ⌝ }
+    ensures { λ r. ⌜ (r ≡ fourAt (now (s .entry)) at) × (r < 4294967296) ⌝ }
+{
+    let third = at + 2;
+    let fourth = at + 3;
+    two_at(s, at) * TWO_BYTES + long8(s[third]) * BYTE + long8(s[fourth])
+}
+
+// The key of eight bytes: keys are in the order of the bytes.
+fn key_at(s: &[u8], at: usize) -> u64
+    requires { ⌜ at + 8 ≤ length (now s) ⌝ }
+    ensures { λ r. ⌜ r ≡ keyAt (now (s .entry)) at ⌝ }
+{
+    four_at(s, at) * FOUR_BYTES + four_at(s, at + 4)
+}
+
+// How many bytes both names have.
+fn shared_size(a: &[u8], b: &[u8]) -> usize
+    ensures { λ r. ⌜ (r ≤ length (now (a .entry))) × (r ≤ length (now (b .entry))) ⌝ }
+{
+    if a.len() < b.len() {
+        return a.len();
+    }
+    b.len()
+}
+
+// What is left of two names from a place on, byte by byte.
+fn compare_from(a: &[u8], b: &[u8], at: usize) -> Order
+    ensures { λ r. ⌜ r ≡ ordered (from (now (a .entry)) at) (from (now (b .entry)) at) ⌝ }
+{
+    let mut i = at;
     while i < a.len() {
         if b.len() <= i {
             return Order::Greater;
@@ -213,4 +264,24 @@ pub fn compare_bytes(a: &[u8], b: &[u8]) -> Order
     } else {
         Order::Less
     }
+}
+
+// Two names as they stand, bytewise; a name goes before a longer one that it begins. For tables whose names are in upper case already, as those of objects are. Eight bytes are one key.
+pub fn compare_bytes(a: &[u8], b: &[u8]) -> Order
+    ensures { λ r. ⌜ r ≡ ordered (now (a .entry)) (now (b .entry)) ⌝ }
+{
+    let shared = shared_size(a, b);
+    let mut i = 0;
+    while KEY_BYTES <= shared - i {
+        let x = key_at(a, i);
+        let y = key_at(b, i);
+        if x < y {
+            return Order::Less;
+        }
+        if y < x {
+            return Order::Greater;
+        }
+        i += KEY_BYTES;
+    }
+    compare_from(a, b, i)
 }

@@ -1,18 +1,19 @@
 -- A plain name is one label token in upper case. Assumes nothing.
 use mathlib.Core.Path.{_≡_, refl, sym, _∙_, ap}
-use mathlib.Core.Bool.{Bool, true, false, _&&_, _||_, not}
-use mathlib.Core.List.{List, [], _∷_, map}
-use Prim.Native.Nat.{ℕ, _+_, _≤_, _<_}
+use mathlib.Core.Bool.{Bool, true, false, _&&_, _||_, not, and-true}
+use mathlib.Core.List.{List, [], _∷_, _++_, map}
+use Prim.Native.Nat.{ℕ, _+_, _-_, _≤_, _<_}
 use native.Mathlib.Omega.{arith}
 use lib.Dec.{leb}
-use lib.ListN.{length, getD}
+use lib.ListN.{length, getD, take, drop, length-drop, take-append-drop}
+use lib.Seq.{drop-drop, take-all}
 use borrow.Author.Tests.{eqb-true, eq-eqb, ne-eqb, leb-true, le-leb, lt-leb}
 use Rattle.rules.specs.Base.{if_then_else_, is, within, same}
 use Rattle.rules.specs.Tokens.{token, digit, letter, wordy, upper, while, wordAt, tokenAt}
 use Rattle.rules.specs.Objects.{labelToken, goodName}
 use Rattle.rules.proofs.Bools.{never, and-left, and-right}
 use Rattle.base_text.specs.Runs.{from}
-use Rattle.base_text.proofs.Rest.{from-step, from-end}
+use Rattle.base_text.proofs.Rest.{from-start, from-step, from-end}
 use Rattle.base_text.proofs.ByteLaws.{upper-low}
 use Rattle.lex_reserved.specs.Ident.{identOf}
 use Rattle.lex_reserved.specs.declared.Ident.{Ident}
@@ -20,20 +21,63 @@ use Rattle.object_names.specs.Whole.{isLabel}
 use Rattle.object_names.specs.Plain.{capital, beginning, allCapital, plain}
 use Rattle.object_names.proofs.Judged.{no-right, word-free}
 
--- THE LOOP
+-- THE LOOPS
 
-module _ (s : List ℕ) {i : ℕ} {z : Bool} (g : allCapital (from s i) ≡ z) where
-  step : (h : i < length s) → allCapital (from s i) ≡ (capital (getD s i 0) && allCapital (from s (i + 1)))
-  step h = ap allCapital (from-step s i h)
+-- byte by byte: the whole is capital if what was looked at is, and what is left
+pub record FoundTo (s : List ℕ) (good : Bool) (i : ℕ) : Type 0 where
+  pub same : (good && allCapital (from s i)) ≡ allCapital s
 
-  pub capital-go : {x : Bool} → i < length s → x ≡ capital (getD s i 0) → x ≡ true → allCapital (from s (i + 1)) ≡ z
-  capital-go h p e = sym (step h ∙ ap (λ (b : Bool). b && allCapital (from s (i + 1))) (sym p ∙ e)) ∙ g
+pub part-start : (s : List ℕ) → FoundTo s true 0
+part-start s = record { same = ap allCapital (from-start s) }
 
-  pub capital-stop : {x : Bool} → i < length s → x ≡ capital (getD s i 0) → x ≡ false → false ≡ z
-  capital-stop h p e = sym (step h ∙ ap (λ (b : Bool). b && allCapital (from s (i + 1))) (sym p ∙ e)) ∙ g
+module _ (s : List ℕ) {i : ℕ} {g : Bool} (f : FoundTo s g i) where
+  pub part-next : {x : Bool} → i < length s → x ≡ capital (getD s i 0) → FoundTo s (g && x) (i + 1)
+  part-next {x} h p = record {
+    same = regroup g x (allCapital (from s (i + 1))) ∙ (ap (λ (b : Bool). g && b) (sym (ap allCapital (from-step s i h) ∙ ap (λ (b : Bool). b && allCapital (from s (i + 1))) (sym p))) ∙ f .same);
+  }
+    where
+      regroup : (a b c : Bool) → ((a && b) && c) ≡ (a && (b && c))
+      regroup true b c = refl
+      regroup false b c = refl
 
-  pub capital-end : length s ≤ i → true ≡ z
-  capital-end h = sym (ap allCapital (from-end s i h)) ∙ g
+  pub part-end : length s ≤ i → g ≡ allCapital s
+  part-end h = sym (ap (λ (l : List ℕ). g && allCapital l) (from-end s i h) ∙ and-true g) ∙ f .same
+
+-- step by step: what is left is capital if the whole is
+all-append : (x y : List ℕ) → allCapital (x ++ y) ≡ (allCapital x && allCapital y)
+all-append [] y = refl
+all-append (c ∷ x) y = ap (λ (b : Bool). capital c && b) (all-append x y) ∙ regroup (capital c) (allCapital x) (allCapital y)
+  where
+    regroup : (a b c : Bool) → (a && (b && c)) ≡ ((a && b) && c)
+    regroup true b c = refl
+    regroup false b c = refl
+
+-- up to i every byte is capital
+pub record CapitalTo (s : List ℕ) (i : ℕ) : Type 0 where
+  pub within : i ≤ length s
+  pub same : allCapital (from s i) ≡ allCapital s
+
+pub to-start : (s : List ℕ) → CapitalTo s 0
+to-start s = record { within = omega arith; same = ap allCapital (from-start s) }
+
+module _ (s : List ℕ) {i : ℕ} (f : CapitalTo s i) where
+  cut : (e : ℕ) → i ≤ e → allCapital (from s i) ≡ (allCapital (take (e - i) (drop i s)) && allCapital (from s e))
+  unfolding from
+  cut e l =
+      let k : i + (e - i) ≡ e = omega arith in
+      ap allCapital (sym (take-append-drop (e - i) (drop i s))) ∙ (all-append (take (e - i) (drop i s)) (drop (e - i) (drop i s))
+      ∙ ap (λ (r : List ℕ). allCapital (take (e - i) (drop i s)) && allCapital r) (drop-drop (e - i) i s ∙ ap (λ (n : ℕ). drop n s) k))
+
+  module _ {x : Bool} {e : ℕ} (p : x ≡ allCapital (take (e - i) (drop i s))) (l : i ≤ e) where
+    pub to-next : x ≡ true → e ≤ length s → CapitalTo s e
+    to-next q h = record { within = h; same = sym (cut e l ∙ ap (λ (b : Bool). b && allCapital (from s e)) (sym p ∙ q)) ∙ f .same }
+
+    pub to-stop : x ≡ false → false ≡ allCapital s
+    to-stop q = sym (cut e l ∙ ap (λ (b : Bool). b && allCapital (from s e)) (sym p ∙ q)) ∙ f .same
+
+  pub to-end : {x : Bool} → x ≡ allCapital (take (length s - i) (drop i s)) → x ≡ allCapital s
+  unfolding from
+  to-end p = p ∙ (ap allCapital (take-all (length s - i) (drop i s) (omega (arith, length-drop i s))) ∙ f .same)
 
 -- BYTES
 

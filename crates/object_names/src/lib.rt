@@ -81,18 +81,36 @@ fn begins_word(b: u8) -> bool
     (((b'A' <= b) & (b <= b'Z')) | (b == b'_')) & !(b == b'R') & !(b == b'X')
 }
 
+// How many bytes are looked at in one step.
+const STEP: usize = 8;
+
+// Every byte is a capital letter, a digit or the underscore. The loop has no exit, so that many are looked at at once.
+fn capital_part(part: &[u8]) -> bool
+    ensures { λ r. ⌜ r ≡ allCapital (now (part .entry)) ⌝ }
+{
+    let mut good = true;
+    let mut i = 0;
+    while i < part.len() {
+        good = good & is_capital(part[i]);
+        i += 1;
+    }
+    good
+}
+
+// The same of a name, step by step.
 fn all_capital(name: &[u8]) -> bool
     ensures { λ r. ⌜ r ≡ allCapital (now (name .entry)) ⌝ }
 {
     let mut i = 0;
-    while i < name.len() {
-        if is_capital(name[i]) {
-            i += 1;
+    while STEP <= name.len() - i {
+        let stop = i + STEP;
+        if capital_part(&name[i..stop]) {
+            i = stop;
         } else {
             return false;
         }
     }
-    true
+    capital_part(&name[i..])
 }
 
 // A name that its bytes show to be a label: a word in upper case that is not reserved.

@@ -14,6 +14,7 @@ use Rattle.stored_walk.specs.Walking.{begun, Tells, Going, Steps}
 use Rattle.stored_walk.specs.declared.Walk.{Walk}
 use Rattle.stored_walk.specs.declared.Walked.{Walked}
 use Rattle.stored_walk.specs.declared.Walked.the-variants.{On, Ended, Broken}
+use Rattle.stored_run.specs.Following.{Runs}
 use Rattle.stored_walk.proofs.Starting.{going-start, step-further, step-within}
 
 -- WHAT THE LOOP KEEPS: the walk tells what was read
@@ -36,9 +37,14 @@ module _ (b old x y : List ℕ) (w : Walk) (t : Turning b old x w) (r : Walked) 
     unfolding Steps
     turned-more = let o = rw e at steps in record { size = n ∙ t .size; going = record { state = _; tells = o .tells } }
 
-    pub turned-less : length b - v .at < length b - w .at
-    unfolding Steps
-    turned-less = let o = rw e at steps in omega (arith, step-further b y w (t .going .state) v o, step-within b y w (t .going .state) v o)
+    -- and the labels behind it
+    module _ {z : List ℕ} {u : Walk} (k : Runs b y z v u) where
+      pub turned-run : Turning b old z u
+      turned-run = record { size = k .size ∙ turned-more .size; going = k .going }
+
+      pub turned-less : length b - u .at < length b - w .at
+      unfolding Steps
+      turned-less = let o = rw e at steps in omega (arith, k .further, step-further b y w (t .going .state) v o, step-within b y w (t .going .state) v o)
 
   -- the end of an object
   pub turned-whole : (c : Counts) → r ≡ Ended c → (a : Answer) → a ≡ accepting c → meant a ≡ answer (check b)

@@ -19,7 +19,7 @@ fn check_fields(bytes: &[u8], places: &mut [usize]) -> Answer
     loop {
         match stored_walk::step(bytes, places, w) {
             Walked::On(next) => {
-                w = next;
+                w = stored_run::label_run(bytes, places, next);
             }
             Walked::Ended(c) => {
                 return object_answer::acceptance(c);

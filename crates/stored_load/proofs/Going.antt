@@ -10,6 +10,7 @@ use Rattle.rules.specs.Objects as Objects
 use Rattle.rules.specs.Buffers.{Buffers, six, short, lentWords}
 use Rattle.rules.specs.Stored.{State, begin, held, next, check}
 use Rattle.rules.proofs.Bools.{never}
+use Rattle.rules.proofs.Fits.{long}
 use Rattle.laws_stored.specs.Beginnings.{AreBytes}
 use Rattle.object.specs.declared.Counts.{Counts}
 use Rattle.stored_walk.specs.declared.Walk.{Walk}
@@ -20,6 +21,7 @@ use Rattle.stored_walk.proofs.Starting.{tells-start, step-further, step-within}
 use Rattle.stored_put.specs.Laid.{Laid, Meets, Met, Puts}
 use Rattle.stored_put.proofs.Growing.{laid-begin, laid-whole}
 use Rattle.stored_put.proofs.Meeting.{words-rise}
+use Rattle.stored_put_labels.specs.Putting.{Roomy, PutRun}
 use Rattle.stored_load.specs.declared.Filled.the-variants as filled
 use Rattle.stored_load.specs.Filling.{Lengths, Fitting, PutFitting, Fillable, Fills, Came}
 
@@ -57,6 +59,31 @@ filling-none {b} {places} {x = x} f v e = rw e (record {
   lengths = record { blocks = refl; words = refl; marks = refl; labels = refl; relocs = refl; names = refl };
 })
 
+-- the labels behind a field
+module _ {b noted places : List ℕ} {room : ℕ} {out : Buffers} {bs ws ms ls rs ns : List ℕ} {w : Walk} (f : Filling b noted places room out (six bs ws ms ls rs ns) w) where
+  pub filling-roomy : {ls′ ns′ : List ℕ} → length ls′ ≡ length ls → length ns′ ≡ length ns → Roomy ls′ ns′
+  filling-roomy dl dn = let l = long out (f .full) in record { rows = omega (arith, l .labels, f .lengths .labels); bytes = omega (arith, l .names, f .lengths .names) }
+
+  pub filling-run : {after ls′ ns′ : List ℕ} {u : Walk} → PutRun b places after w u room ls ns ls′ ns′ → length ls′ ≡ length ls → length ns′ ≡ length ns → Filling b noted after room out (six bs ws ms ls′ rs ns′) u
+  filling-run p dl dn =
+      let o = p .runs (f .state) (f .tells) in
+      record {
+        state = o .state;
+        tells = o .tells;
+        full = f .full;
+        lent = f .lent;
+        laid = λ h. (let k : w .words ≤ room = omega (arith, p .words) in o .laid out bs ws ms rs (f .full) (f .lent) k (f .laid k));
+        noting = p .size ∙ f .noting;
+        lengths = record {
+          blocks = f .lengths .blocks;
+          words = f .lengths .words;
+          marks = f .lengths .marks;
+          labels = dl ∙ f .lengths .labels;
+          relocs = f .lengths .relocs;
+          names = dn ∙ f .lengths .names;
+        };
+      }
+
 module _ {b noted places : List ℕ} {room : ℕ} {out : Buffers} {bs ws ms ls rs ns : List ℕ} {w : Walk} (f : Filling b noted places room out (six bs ws ms ls rs ns) w) where
   pub filling-going : Going b places w
   filling-going = record { state = f .state; tells = f .tells }
@@ -68,9 +95,9 @@ module _ {b noted places : List ℕ} {room : ℕ} {out : Buffers} {bs ws ms ls r
       unfolding Steps
       onward = rw e at (m .1 (f .state) (f .tells))
 
-      -- it lies behind the last
-      pub filling-less : length b - n .at < length b - w .at
-      filling-less = omega (arith, step-further b after w (f .state) n onward, step-within b after w (f .state) n onward)
+      -- it lies behind the last, and so do the labels behind it
+      pub filling-less : (k : ℕ) → n .at ≤ k → length b - k < length b - w .at
+      filling-less k l = omega (arith, step-further b after w (f .state) n onward, step-within b after w (f .state) n onward)
 
       meets : n .words ≤ room → Meets b places after w (f .state) n out (six bs ws ms ls rs ns)
       meets h = record { tells = f .tells; onward = onward; laid = f .laid (omega (arith, words-rise (f .tells) onward)); full = f .full; room = rw (f .lent) at h }
@@ -98,6 +125,17 @@ module _ {b noted places : List ℕ} {room : ℕ} {out : Buffers} {bs ws ms ls r
           names = dn ∙ f .lengths .names;
         };
       }
+
+      -- behind it labels may follow
+      pub filling-next : Going b after n
+      filling-next = record { state = next (f .state) (onward .item); tells = onward .tells }
+
+      -- and are put
+      pub filling-both : {bs′ ws′ ms′ ls′ rs′ ns′ : List ℕ} → PutFitting b w n room (six bs ws ms ls rs ns) (six bs′ ws′ ms′ ls′ rs′ ns′)
+          → length bs′ ≡ length bs → length ws′ ≡ length ws → length ms′ ≡ length ms → length ls′ ≡ length ls → length rs′ ≡ length rs → length ns′ ≡ length ns
+          → {last ls″ ns″ : List ℕ} {u : Walk} → PutRun b after last n u room ls′ ns′ ls″ ns″ → length ls″ ≡ length ls′ → length ns″ ≡ length ns′
+          → Filling b noted last room out (six bs′ ws′ ms′ ls″ rs′ ns″) u
+      filling-both p db dw dm dl dr dn q el en = filling-run (filling-more p db dw dm dl dr dn) q el en
 
     -- the end
     module _ {c : Counts} (e : r ≡ Ended c) where

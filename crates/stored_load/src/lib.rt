@@ -82,7 +82,7 @@ fn fill(
                     relocations,
                     names,
                 );
-                w = next;
+                w = stored_put_labels::put_run(bytes, places, next, room, labels, names);
             }
             Walked::Ended(c) => {
                 return Filled::Whole(c);

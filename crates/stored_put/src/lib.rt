@@ -49,7 +49,7 @@ fn put_words(bytes: &[u8], start: usize, n: usize, words: &mut [u16], marks: &mu
 }
 
 // x04: the label of row k, defined at an address, whose name goes behind `at` name bytes.
-fn put_defined(
+pub fn put_defined(
     bytes: &[u8],
     start: usize,
     end: usize,
@@ -67,7 +67,7 @@ fn put_defined(
 }
 
 // x05: the external of row k.
-fn put_external(
+pub fn put_external(
     bytes: &[u8],
     start: usize,
     end: usize,

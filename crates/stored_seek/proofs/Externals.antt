@@ -137,3 +137,21 @@ module _ (b places : List ℕ) (n : ℕ) (x : Name) (lo hi : ℕ) (t : Narrowed 
 
         pub hit-defined : (getD b at 0 ≡ 5 → ⊥) → Other ≡ rowTold (s .labels) x
         hit-defined g = told-defined (s .labels) (sorted h) x middle (inside s end h) (sym (same-name s end h) ∙ is-same m x q z) (tag-defined b at (row (s .labels) middle) (here s end h) g)
+
+-- ONE ROW
+
+module _ (b places : List ℕ) (n k : ℕ) (l : k < n) where
+  there : (s : State) (end : ℕ) → Listed b places n s end → LabelAt b (getD places k 0) (row (s .labels) k)
+  there s end h = h .noted .rows k (omega (arith, h .count))
+
+  pub row-in : ListedIn b places n → k < length places
+  row-in v = let h = v .listed in omega (arith, h .count, h .checks .kept .few-labels, h .noted .room)
+
+  pub row-place : ListedIn b places n → getD places k 0 < length b
+  row-place v = label-in b (getD places k 0) (row (v .state .labels) k) (there (v .state) (v .end) (v .listed))
+
+  pub row-external : getD b (getD places k 0) 0 ≡ 5 → (m x : Name) → ((e : Name × Lab) → LabelAt b (getD places k 0) e → m ≡ e .0) → (r : Order) → r ≡ ordered m x → r ≡ Same
+      → (s : State) (end : ℕ) → Listed b places n s end → External k ≡ rowTold (s .labels) x
+  row-external g m x f r q z s end h =
+      told-external (s .labels) (sorted h) x k (omega (arith, h .count)) (sym (f (row (s .labels) k) (there s end h)) ∙ is-same m x q z)
+      (tag-outer b (getD places k 0) (row (s .labels) k) (there s end h) g)

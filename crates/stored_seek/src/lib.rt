@@ -1,10 +1,12 @@
 // What a relocation asks of the fields before it: the word at its address, found by walking on through the runs, and the row of its name, found by halving.
 ghost use mathlib.Core.Path.{_≡_};
+ghost use mathlib.Core.Bool.{true};
 ghost use Prim.Native.Nat.{ℕ, _+_, _≤_};
 ghost use lib.ListN.{length};
 ghost use Rattle.rules.specs.Objects.{Name, Lab};
 ghost use Rattle.rules.specs.Stored.{State};
 ghost use Rattle.laws_stored.specs.Offsets.{numberAt};
+ghost use Rattle.stored_seek.specs.declared.Row.the-variants.{External};
 ghost use Rattle.stored_seek.specs.Seeking.{Seeker, Seeks, Paces, LabelAt, Listed, ListedIn, rowTold};
 use base_casts::wide16;
 use base_text::Order;
@@ -165,4 +167,35 @@ pub fn seek_external(bytes: &[u8], places: &[usize], n: usize, name: &[u8]) -> R
         }
     }
     Row::Other
+}
+
+// Row k is that of an external with this name.
+fn is_external(bytes: &[u8], places: &[usize], n: usize, k: usize, name: &[u8]) -> bool
+    requires { ⌜ ListedIn (now bytes) (now places) n ⌝ }
+    ensures { λ r. ⌜ ((s : State) (end : ℕ) → Listed (now (bytes .entry)) (now (places .entry)) n s end → r ≡ true → External k ≡ rowTold (s .labels) (now (name .entry))) ⌝ }
+{
+    if n <= k {
+        return false;
+    }
+    let at = places[k];
+    match base_text::compare_bytes(label_name(bytes, at), name) {
+        Order::Less => false,
+        Order::Same => bytes[at] == EXTERNAL_LABEL,
+        Order::Greater => false,
+    }
+}
+
+// The same as seek_external. The row behind the last one that was found is looked at first, since relocations often follow one another as their labels do.
+pub fn seek_near(bytes: &[u8], places: &[usize], n: usize, last: usize, name: &[u8]) -> Row
+    requires { ⌜ ListedIn (now bytes) (now places) n ⌝ }
+    ensures { λ r. ⌜ ((s : State) (end : ℕ) → Listed (now (bytes .entry)) (now (places .entry)) n s end → r ≡ rowTold (s .labels) (now (name .entry))) ⌝ }
+{
+    if last < n {
+        let near = last + 1;
+        if is_external(bytes, places, n, near, name) {
+            return Row::External(near);
+        }
+        return seek_external(bytes, places, n, name);
+    }
+    seek_external(bytes, places, n, name)
 }

@@ -35,7 +35,7 @@ use Rattle.stored_walk.proofs.Blocks.{breaks, silent, cursor-fresh}
 
 -- NAMES RISE
 
-fits-less : (l n : Name) → Before l n → nameFits l n ≡ goodName n
+pub fits-less : (l n : Name) → Before l n → nameFits l n ≡ goodName n
 unfolding nameFits
 fits-less l n h = rw (less-is l n h, nameFits) refl
 
@@ -111,15 +111,19 @@ names-short l z (e ∷ t) h = omega (arith, good-short (e .0) (h .1), names-shor
 pub listed : {b places : List ℕ} {w : Walk} {s : State} → Tells b places w s → Listed b places (w .labels) s (w .at)
 listed t = record { checks = t .checks; count = t .labels; noted = t .noted }
 
+-- before the first label there is no name
+pub first-last : {b places : List ℕ} {w : Walk} {s : State} → Tells b places w s → w .labels ≡ 0 → s .last ≡ []
+first-last {s = s} t z = no-name [] (s .last) (s .labels) (t .checks .kept .names) (sym (t .labels) ∙ z)
+
 module _ (b old : List ℕ) (w : Walk) (s : State) (t : Tells b old w s) where
   -- the tests are the rule's
-  label-may : (n : Name) (v : Lab) → (labelFits w && nameFits (s .last) n) ≡ may s (label n v)
+  pub label-may : (n : Name) (v : Lab) → (labelFits w && nameFits (s .last) n) ≡ may s (label n v)
   unfolding labelFits nameFits may
   label-may n v =
       rw (t .owed, t .relocations, t .labels, labelFits)
       (regroup (eqb (s .owed) 0) (eqb (length (s .relocs)) 0) (ltb (length (s .labels)) 1024) (isLess (nameOrder .tri (s .last) n)) (goodName n))
 
-  tells-label : (n : Name) (v : Lab) (e : ℕ) → Finds b (w .at) (label n v) e → may s (label n v) ≡ true → Tells b (set old (w .labels) (w .at)) (behindLabel w e (length n)) (next s (label n v))
+  pub tells-label : (n : Name) (v : Lab) (e : ℕ) → Finds b (w .at) (label n v) e → may s (label n v) ≡ true → Tells b (set old (w .labels) (w .at)) (behindLabel w e (length n)) (next s (label n v))
   unfolding next
   tells-label n v e f m =
       let k = may-label s n v m in

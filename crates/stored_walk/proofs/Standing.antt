@@ -32,14 +32,14 @@ use Rattle.laws_stored.proofs.Contents.{
 use Rattle.stored_read.proofs.Found.{Stands}
 
 -- tag and length, as the bytes have them
-record Headed (b : List ℕ) (at t s e : ℕ) : Type 0 where
+pub record Headed (b : List ℕ) (at t s e : ℕ) : Type 0 where
   pub fits : nextAt b at ≤ length b
   pub tag : getD b at 0 ≡ t
   pub size : lengthAt b at ≡ e - s
   pub next : nextAt b at ≡ e
 
 module _ (b : List ℕ) (at t s e : ℕ) (f : Stands b at t s e) where
-  heads : Headed b at t s e
+  pub heads : Headed b at t s e
   heads = go (leb (nextAt b at) (length b)) refl
     where
       go : (q : Bool) → leb (nextAt b at) (length b) ≡ q → Headed b at t s e

@@ -363,7 +363,7 @@ fn step_named(
     let word = stored_seek::seek_word(bytes, w.at, w.seen, w.address, wanted);
     if word.zero {
         let name = stored_read::part_of(bytes, start, end);
-        match stored_seek::seek_external(bytes, places, w.labels, name) {
+        match stored_seek::seek_near(bytes, places, w.labels, w.row, name) {
             Row::External(row) => {
                 return Walked::On(relocated(w, end, wanted + 1, row, word.seen, word.address));
             }

@@ -1,19 +1,25 @@
--- `base_text::compare_bytes` meets its contract. Assumes nothing.
+-- `base_text::compare_bytes` meets its contract: a law for each way through the loop. Assumes nothing.
 use Prim.Native.Nat.{_-_}
-use mathlib.Core.Path.{_≡_, refl}
-use lib.ListN.{length}
-use Rattle.base_text.specs.Names.{ordered}
-use Rattle.base_text.proofs.Rest.{from-start}
-use Rattle.base_text.proofs.NameLaws.{mapFrom, map-same, less-met, greater-met, order-again, short-met, long-met, same-met}
+use native.Mathlib.Omega.{arith}
 use borrow.Author.Needs.{needs}
+use Rattle.base_text.proofs.KeyLaws.{AlikeTo, alike-none, alike-rest, alike-less, alike-more, alike-next}
 use Rattle.base_text.proofs.compare_bytes.Statement.{statement}
 use Rattle.base_text.proofs.compare_bytes.Tie as tie
 
 abbrev Inv-loop : tie.InvT-loop
-Inv-loop a b i₀ i = ordered (mapFrom (λ x. x) a i) (mapFrom (λ x. x) b i) ≡ ordered a b
+Inv-loop a b shared i₀ i = AlikeTo a b shared i
 
 abbrev μ-loop : tie.MeasureT-loop
-μ-loop a b i₀ i = length a - i
+μ-loop a b shared i₀ i = shared - i
+
+returns : tie.Need-returns Inv-loop μ-loop
+returns c = alike-less (c .before .before .before .before .loop .inv) (λ k. omega (arith, c .before .before .before .before .before .before .before .shared-slice-known .given k)) (λ k. omega (arith, c .before .before .before .before .before .before .shared-slice-known2 .given k)) (c .before .before .before .before .before .shared-size .ensures .0) (c .before .before .before .before .before .shared-size .ensures .1) (c .before .before .before .loop-test .taken) (c .before .before .key-at .ensures) (c .before .key-at2 .ensures) (c .if1 .taken)
+
+returns-2 : tie.Need-returns-2 Inv-loop μ-loop
+returns-2 c = alike-more (c .before .before .before .before .before .loop .inv) (λ k. omega (arith, c .before .before .before .before .before .before .before .before .shared-slice-known .given k)) (λ k. omega (arith, c .before .before .before .before .before .before .before .shared-slice-known2 .given k)) (c .before .before .before .before .before .before .shared-size .ensures .0) (c .before .before .before .before .before .before .shared-size .ensures .1) (c .before .before .before .before .loop-test .taken) (c .before .before .before .key-at .ensures) (c .before .before .key-at2 .ensures) (c .if2 .taken)
+
+loop-again : tie.Need-loop-again Inv-loop μ-loop
+loop-again c = alike-next (c .before .before .before .before .before .loop .inv) (λ k. omega (arith, c .before .before .before .before .before .before .before .before .shared-slice-known .given k)) (λ k. omega (arith, c .before .before .before .before .before .before .before .shared-slice-known2 .given k)) (c .before .before .before .before .before .before .shared-size .ensures .0) (c .before .before .before .before .before .before .shared-size .ensures .1) (c .before .before .before .before .loop-test .taken) (c .before .before .before .key-at .ensures) (c .before .before .key-at2 .ensures) (c .before .if1 .left) (c .if2 .left)
 
 pub compare-bytes-spec : {M : Type 1} → statement M
 compare-bytes-spec =
@@ -21,14 +27,15 @@ compare-bytes-spec =
     (tie.spec
     Inv-loop
     μ-loop
-    (λ c. simp (from-start, map-same))
-    (λ c. long-met (λ x. x) (c .before .before .before .args .a .now) (c .before .before .before .args .b .now) (c .before .before .loop .inv) (c .before .loop-test .taken) (c .if1 .taken))
+    (λ c κs. search needs)
+    (λ c. alike-none _ _ _)
+    (λ c. search needs)
+    (λ c κs. search needs)
+    (λ c κs. search needs)
+    returns
+    returns-2
     (λ c. search needs)
     (λ c. search needs)
-    (λ c. less-met (λ x. x) (c .before .before .before .before .before .before .args .a .now) (c .before .before .before .before .before .before .args .b .now) refl refl (c .before .before .before .before .loop-test .taken) (c .before .before .before .if1 .left) (c .before .before .before .before .before .loop .inv) (c .if2 .taken))
-    (λ c. greater-met (λ x. x) (c .before .before .before .before .before .before .before .args .a .now) (c .before .before .before .before .before .before .before .args .b .now) refl refl (c .before .before .before .before .before .loop-test .taken) (c .before .before .before .before .if1 .left) (c .before .before .before .before .before .before .loop .inv) (c .if3 .taken))
-    (λ c. search needs)
-    (λ c. search needs)
-    (λ c. order-again (λ x. x) (c .before .before .before .before .before .before .before .args .a .now) (c .before .before .before .before .before .before .before .args .b .now) refl refl (c .before .before .before .before .before .loop-test .taken) (c .before .before .before .before .if1 .left) (c .before .before .before .before .before .before .loop .inv) (c .before .if2 .left) (c .if3 .left))
-    (λ c. same-met (λ x. x) (c .before .before .before .args .a .now) (c .before .before .before .args .b .now) (c .before .before .loop .inv) (c .before .loop-test .left) (c .if4 .taken))
-    (λ c. short-met (λ x. x) (c .before .before .before .args .a .now) (c .before .before .before .args .b .now) (c .before .before .loop .inv) (c .before .loop-test .left) (c .if4 .left)))
+    loop-again
+    (λ c κs. search needs)
+    (λ c. search (needs, alike-rest)))

@@ -3,7 +3,7 @@ use Prim.Native.Nat.{_-_}
 use mathlib.Core.Path.{_∙_}
 use lib.ListN.{length}
 use borrow.Author.Needs.{needs}
-use Rattle.stored_check.proofs.Turns.{Turning, turning-start, turned-more, turned-less, turned-whole, turned-broken}
+use Rattle.stored_check.proofs.Turns.{Turning, turning-start, turned-more, turned-run, turned-less, turned-whole, turned-broken}
 use Rattle.stored_check.proofs.check_fields.Statement.{statement}
 use Rattle.stored_check.proofs.check_fields.Tie as tie
 
@@ -16,11 +16,14 @@ abbrev μ-loop : tie.MeasureT-loop
 loop-holds : tie.Need-loop-holds Inv-loop μ-loop
 loop-holds c = turning-start _ _ _ (λ i. c .before .before .shared-slice-known .given i .fits) (c .before .before .before .pre) (c .begin .ensures)
 
+label-run-requires : tie.Need-label-run-requires Inv-loop μ-loop
+label-run-requires c κs = turned-more _ _ _ _ _ (c .before .before .before .before .before .before .before .before .loop .inv) _ (c .before .before .before .before .before .before .step .ensures .0) (c .before .before .before .before .before .before .step .ensures .1) _ (c .before .before .next .given .1) .going
+
 loop-less : tie.Need-loop-less Inv-loop μ-loop
-loop-less c = turned-less _ _ _ _ _ (c .before .before .before .before .before .before .before .loop .inv) _ (c .before .before .before .before .before .step .ensures .0) (c .before .before .before .before .before .step .ensures .1) _ (c .before .next .given .1)
+loop-less c = turned-less _ _ _ _ _ (c .before .before .before .before .before .before .before .before .before .before .before .loop .inv) _ (c .before .before .before .before .before .before .before .before .before .step .ensures .0) (c .before .before .before .before .before .before .before .before .before .step .ensures .1) _ (c .before .before .before .before .before .next .given .1) (c .before .before .label-run .ensures)
 
 loop-again : tie.Need-loop-again Inv-loop μ-loop
-loop-again c = turned-more _ _ _ _ _ (c .before .before .before .before .before .before .before .loop .inv) _ (c .before .before .before .before .before .step .ensures .0) (c .before .before .before .before .before .step .ensures .1) _ (c .before .next .given .1)
+loop-again c = turned-run _ _ _ _ _ (c .before .before .before .before .before .before .before .before .before .before .before .loop .inv) _ (c .before .before .before .before .before .before .before .before .before .step .ensures .0) (c .before .before .before .before .before .before .before .before .before .step .ensures .1) _ (c .before .before .before .before .before .next .given .1) (c .before .before .label-run .ensures)
 
 same-length : tie.Need-same-length Inv-loop μ-loop
 same-length c = c .before .before .before .before .before .before .step .ensures .0 ∙ c .before .before .before .before .before .before .before .before .loop .inv .size
@@ -44,6 +47,7 @@ check-fields-spec =
     loop-holds
     (λ c κs. search needs)
     (λ c. search needs)
+    label-run-requires
     loop-less
     loop-again
     (λ c. search needs)

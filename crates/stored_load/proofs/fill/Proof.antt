@@ -3,7 +3,7 @@ use Prim.Native.Nat.{_-_}
 use native.Mathlib.Omega.{arith}
 use lib.ListN.{length}
 use Rattle.rules.specs.Buffers.{six}
-use Rattle.stored_load.proofs.Going.{Filling, filling-none, filling-going, filling-fits, filling-less, filling-more, filling-whole, filling-broken}
+use Rattle.stored_load.proofs.Going.{Filling, filling-none, filling-going, filling-fits, filling-less, filling-next, filling-roomy, filling-both, filling-whole, filling-broken}
 use borrow.Author.Needs.{needs}
 use Rattle.stored_load.proofs.fill.Statement.{statement}
 use Rattle.stored_load.proofs.fill.Tie as tie
@@ -22,8 +22,14 @@ loop-holds c = filling-none (c .before .before .before .before .before .before .
 put-fitting-requires : tie.Need-put-fitting-requires Inv-loop μ-loop
 put-fitting-requires c κs = filling-fits (c .before .before .before .before .before .before .before .before .before .before .before .before .before .loop .inv) _ _ (c .before .before .before .before .before .before .before .before .before .before .before .step .ensures) (c .before .before .before .before .before .before .before .next .given .1)
 
+put-run-requires : tie.Need-put-run-requires Inv-loop μ-loop
+put-run-requires c κs = (filling-next (c .before .before .before .before .before .before .before .before .before .before .before .before .before .before .before .before .before .before .before .before .before .before .before .before .before .before .before .before .before .loop .inv) _ _ (c .before .before .before .before .before .before .before .before .before .before .before .before .before .before .before .before .before .before .before .before .before .before .before .before .before .before .before .step .ensures) (c .before .before .before .before .before .before .before .before .before .before .before .before .before .before .before .before .before .before .before .before .before .before .before .next .given .1), filling-roomy (c .before .before .before .before .before .before .before .before .before .before .before .before .before .before .before .before .before .before .before .before .before .before .before .before .before .before .before .before .before .loop .inv) (search needs) (search needs))
+
 loop-less : tie.Need-loop-less Inv-loop μ-loop
-loop-less c = filling-less (c .before .before .before .before .before .before .before .before .before .before .before .before .before .before .before .before .before .before .before .before .before .before .before .before .before .before .loop .inv) _ _ (c .before .before .before .before .before .before .before .before .before .before .before .before .before .before .before .before .before .before .before .before .before .before .before .before .step .ensures) (c .before .before .before .before .before .before .before .before .before .before .before .before .before .before .before .before .before .before .before .before .next .given .1)
+loop-less c = filling-less (c .before .before .before .before .before .before .before .before .before .before .before .before .before .before .before .before .before .before .before .before .before .before .before .before .before .before .before .before .before .before .before .before .before .before .before .before .loop .inv) _ _ (c .before .before .before .before .before .before .before .before .before .before .before .before .before .before .before .before .before .before .before .before .before .before .before .before .before .before .before .before .before .before .before .before .before .before .step .ensures) (c .before .before .before .before .before .before .before .before .before .before .before .before .before .before .before .before .before .before .before .before .before .before .before .before .before .before .before .before .before .before .next .given .1) _ (c .before .before .before .before .before .before .put-run .ensures .further)
+
+loop-again : tie.Need-loop-again Inv-loop μ-loop
+loop-again c = filling-both (c .before .before .before .before .before .before .before .before .before .before .before .before .before .before .before .before .before .before .before .before .before .before .before .before .before .before .before .before .before .before .before .before .before .before .before .before .loop .inv) _ _ (c .before .before .before .before .before .before .before .before .before .before .before .before .before .before .before .before .before .before .before .before .before .before .before .before .before .before .before .before .before .before .before .before .before .before .step .ensures) (c .before .before .before .before .before .before .before .before .before .before .before .before .before .before .before .before .before .before .before .before .before .before .before .before .before .before .before .before .before .before .next .given .1) (c .before .before .before .before .before .before .before .before .before .before .before .before .before .before .before .before .before .before .before .before .before .before .put-fitting .ensures) (search needs) (search needs) (search needs) (search needs) (search needs) (search needs) (c .before .before .before .before .before .before .put-run .ensures) (search needs) (search needs)
 
 pub fill-spec : {M : Type 1} → statement M
 fill-spec =
@@ -36,8 +42,9 @@ fill-spec =
     (λ c κs. search (needs, filling-going))
     (λ c. search needs)
     put-fitting-requires
+    put-run-requires
     loop-less
-    (λ c. search (needs, filling-more))
+    loop-again
     (λ c. search needs)
     (λ c. search needs)
     (λ c. search needs)

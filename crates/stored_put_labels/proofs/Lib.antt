@@ -1,0 +1,2 @@
+-- Laws that the proofs of `stored_put_labels` cite. Assumes nothing.
+pub mod Rows
