@@ -16,7 +16,7 @@ const LINE_BYTES: usize = 128;
 // What an object has, on standard output.
 fn tell_counts(path: &[u8], answer: Answer) -> u8 {
     let mut line = [0u8; LINE_BYTES];
-    let n = view_text::put_count(&mut line, 0, base_casts::long(answer.blocks), b"block");
+    let n = view_object::put_heading(&mut line, counts_of(answer));
     if io::write_all(STDOUT_FILENO, path) & io::write_all(STDOUT_FILENO, b": ") {
         return telling::write_out(front(&line, n), telling::ACCEPTED);
     }

@@ -2,6 +2,7 @@
 // ./lc3 answers with is told on descriptor 3.
 mod assembling;
 mod checking;
+mod explaining;
 mod linking;
 mod listing;
 mod named;
@@ -34,6 +35,12 @@ fn run_on_file(word: &[u8], path: &[u8]) -> u8 {
     if is(word, b"list") {
         return listing::list(path);
     }
+    if is(word, b"explain") {
+        return explaining::explain_source(path);
+    }
+    if is(word, b"explain-object") {
+        return explaining::explain_object(path);
+    }
     telling::FAILED
 }
 
@@ -44,6 +51,17 @@ fn run_on_argument(word: &[u8], i: usize) -> u8 {
     run_on_file(word, &path[..n])
 }
 
+// The files that the arguments up to the last name: the worst answer.
+fn run_on_all(word: &[u8], end: usize) -> u8 {
+    let mut worst = telling::ACCEPTED;
+    let mut i = FIRST_FILE;
+    while i < end {
+        worst = telling::worse(worst, run_on_argument(word, i));
+        i += 1;
+    }
+    worst
+}
+
 fn run(word: &[u8]) -> u8 {
     if is(word, b"link") {
         return linking::link_files(FIRST_FILE, os::arg_count());
@@ -51,7 +69,7 @@ fn run(word: &[u8]) -> u8 {
     if is(word, b"check") {
         return checking::check_all(FIRST_FILE, os::arg_count(), false);
     }
-    run_on_argument(word, FIRST_FILE)
+    run_on_all(word, os::arg_count())
 }
 
 fn main() {

@@ -156,12 +156,6 @@ fn show_link(name: &[u8], first: &[u8], second: &[u8]) {
     );
 }
 
-// A line that says what is explained, then the view.
-fn explain(name: &[u8], src: &[u8]) {
-    io::write_all(STDOUT_FILENO, name);
-    view::print_source(src);
-}
-
 fn marked_examples() {
     show(
         b"P1\n",
@@ -190,85 +184,6 @@ fn marked_examples() {
     show_link(b"P10\n", &P3, &P3);
 }
 
-fn views() {
-    explain(
-        b"-- an object\n",
-        b".external F\n.orig x3000\nA B LD R1, P\nJSRR R1\nBRnz A\nLDR R1, R2, #-32\nAND R0, R0, R1\nTRAP x77\nARR .blkw 2\nP .fill F\nMSG .stringz \"Hi\"\nE .end\n.orig x5000\nHALT\n.end\n",
-    );
-    explain(b"-- nothing\n", b"");
-    explain(
-        b"-- tabs before the place\n",
-        b"\t.orig\tx3000\n\tLD\tR0,\tNOWHERE\t; far\n\t.end\n",
-    );
-    explain(
-        b"-- the end of a line, CR LF\n",
-        b".orig x3000\r\nADD R0, R0\r\n.end\r\n",
-    );
-    explain(b"-- the end of the source\n", b".orig x3000\nADD R0, R0,");
-    explain(
-        b"-- a byte above x7F\n",
-        b".orig x3000\n; caf\xC3\xA9\n.end\n",
-    );
-    explain(
-        b"-- two places\n",
-        b".orig 5\nHALT\nHALT\n.end\n.orig 6\nHALT\n.end\n",
-    );
-    explain(b"-- no place\n", b".orig 0\n.blkw 40000\n.end\n");
-    explain(
-        b"-- a long line\n",
-        b".orig x3000\n.stringz \"0123456789012345678901234567890123456789012345678901234567890123456789\" $ ; 0123456789012345678901234567890123456789\n.end\n",
-    );
-}
-
-// What a note says was due.
-fn notes() {
-    explain(
-        b"-- a register is due\n",
-        b".orig x3000\nADD R0, 5, R1\n.end\n",
-    );
-    explain(
-        b"-- a label or a number is due\n",
-        b".orig x3000\nSTART LD R0, R1\n.end\n",
-    );
-    explain(b"-- a number is due\n", b".orig x3000\nTRAP\n.end\n");
-    explain(b"-- a label is due\n", b".external 5\n");
-    explain(b"-- a string is due\n", b".orig x3000\n.stringz HI\n.end\n");
-    explain(
-        b"-- a number out of range\n",
-        b".orig x3000\nADD R0, R0, 16\n.end\n",
-    );
-    explain(
-        b"-- a negative number out of range\n",
-        b".orig x3000\nLDR R0, R1, x-21 ; far\n.end\n",
-    );
-    explain(
-        b"-- a comma is due\n",
-        b".orig x3000\nADD R0 R1, R2\n.end\n",
-    );
-    explain(
-        b"-- the end of the line is due\n",
-        b".orig x3000\nRET R7\n.end\n",
-    );
-    explain(
-        b"-- a directive that is none\n",
-        b".orig x3000\nHI .string \"hi\"\n.end\n",
-    );
-    explain(
-        b"-- an instruction that is none\n",
-        b".orig x3000\nLOOP MOV R0, R1\n.end\n",
-    );
-    explain(
-        b"-- a label with nothing after it\n",
-        b".orig x3000\nHALT\n.end\nLAST ; the end",
-    );
-    explain(
-        b"-- an instruction is due\n",
-        b".orig x3000\n, HALT\n.end\n",
-    );
-}
-
 fn main() {
     marked_examples();
-    views();
-    notes();
 }

@@ -29,6 +29,9 @@ use view_text::put_byte;
 use view_text::put_count;
 use view_text::put_hex;
 
+// Room for the longest piece: a line for each of 1,023 labels, a block's heading and a word's line.
+pub const PIECE_BYTES: usize = 98304;
+
 // A block's row begins with its start.
 const BLOCK_START: usize = 0;
 
@@ -71,7 +74,7 @@ fn put_counted(out: &mut [u8], at: usize, n: usize, what: &[u8], behind: &[u8]) 
 }
 
 // What an object has.
-fn put_heading(out: &mut [u8], c: Counts) -> usize
+pub fn put_heading(out: &mut [u8], c: Counts) -> usize
     ensures { λ r. ⌜ Put (now (out .entry)) (now (out .exit)) 0 r (heading (counts c)) ⌝ }
 {
     let a = put(out, 0, b"ACCEPTED: ");

@@ -2,11 +2,8 @@
 ghost use mathlib.Core.Path.{_≡_};
 ghost use mathlib.Core.List.{[], _∷_};
 ghost use Prim.Native.Nat.{_-_};
-ghost use Rattle.rules.specs.Listing.{lf};
-ghost use Rattle.list_lines.specs.Appended.{written};
-ghost use Rattle.view_text.specs.Put.{fitting, Put};
+ghost use Rattle.view_text.specs.Put.{Put};
 ghost use Rattle.view_text.specs.Texts.{spaces, gap, decimal, counted, hexText, hexText2};
-use libc::STDOUT_FILENO;
 
 // A byte; the place behind it.
 pub fn put_byte(out: &mut [u8], at: usize, b: u8) -> usize
@@ -114,14 +111,4 @@ pub fn put_hex2(out: &mut [u8], at: usize, v: u16) -> usize
     let a = put_byte(out, at, b'x');
     let b = put_byte(out, a, digits[2]);
     put_byte(out, b, digits[3])
-}
-
-// Writes the line, which ends here, with a line feed.
-pub fn print_line(out: &mut [u8], at: usize)
-    ensures { λ _. ⌜ now (out .exit) ≡ written (now (out .entry)) at (fitting (now (out .entry)) at lf) ⌝ }
-{
-    let end = put_byte(out, at, b'\n');
-    if end <= out.len() {
-        io::write_all(STDOUT_FILENO, &out[0..end]);
-    }
 }

@@ -1,0 +1,4 @@
+.orig x3000
+HALT
+.end
+LAST ; the end

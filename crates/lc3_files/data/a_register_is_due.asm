@@ -1,0 +1,3 @@
+.orig x3000
+ADD R0, 5, R1
+.end

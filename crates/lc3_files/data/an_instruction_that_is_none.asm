@@ -1,0 +1,3 @@
+.orig x3000
+LOOP MOV R0, R1
+.end

@@ -1,0 +1,3 @@
+.orig 0
+.blkw 40000
+.end

@@ -1,0 +1,3 @@
+	.orig	x3000
+	LD	R0,	NOWHERE	; far
+	.end

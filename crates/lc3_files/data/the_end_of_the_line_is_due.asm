@@ -1,0 +1,3 @@
+.orig x3000
+RET R7
+.end
