@@ -1,7 +1,7 @@
 #!/usr/bin/env python3
-"""Holds the person's view (target/bin/lc3_explain) beside the listing, the kept answers of assembling and document 01's names.
+"""Holds the person's view (target/bin/lc3_files) beside the listing, the kept answers of assembling and document 01's names.
 
-usage: view_check.py DOCUMENT-01, at the repository's root, after `rt check lc3_list lc3_explain`
+usage: view_check.py DOCUMENT-01, at the repository's root, after `rt check lc3_list lc3_files`
 
 Each source of crates/test_asm/data/vectors_1.txt and vectors_2.txt that was assembled into full buffers is explained: number, name, line, column,
 the line and the carets of each place; of an object every word, label, external and relocation. The program has room for 32,768 words, so
@@ -16,7 +16,8 @@ WIDTH = 100
 
 
 def run(program, src):
-    done = subprocess.run(["tools/run_program", program], input=src, capture_output=True, check=True)
+    words = ["explain", "-"] if program == "lc3_files" else []
+    done = subprocess.run(["tools/run_program", "target/bin/" + program, *words], input=src, capture_output=True, check=True)
     return done.stdout.decode().split("\n")
 
 
@@ -37,7 +38,7 @@ def place_fault(src, start, end, said, lines):
     first = src.rfind(b"\n", 0, start) + 1
     feed = src.find(b"\n", first)
     last = len(src) if feed < 0 else feed - src[first:feed].endswith(b"\r")
-    if lines[0] != "source:%d:%d: %s" % (src.count(b"\n", 0, start) + 1, start - first + 1, said):
+    if lines[0] != "-:%d:%d: %s" % (src.count(b"\n", 0, start) + 1, start - first + 1, said):
         return "place"
     if last - first > WIDTH:
         caret = len(lines[2]) - len(lines[2].lstrip())
@@ -55,7 +56,7 @@ def at_end(src, start):
 
 
 def refusal_fault(src, number, name, places, view):
-    found = re.match(r"source:(?:\d+:\d+:)? (REFUSED %d %s: (\w[^()]*\w))( \(.*\))?$" % (number, name), view[0])
+    found = re.match(r"-:(?:\d+:\d+:)? (REFUSED %d %s: (\w[^()]*\w))( \(.*\))?$" % (number, name), view[0])
     if not found:
         return "heading"
     if number in (11, 41):
@@ -92,7 +93,7 @@ def sources(table):
             continue
         head, part, tail = (bytes.fromhex(fields[i].strip("-")) for i in (0, 1, 3))
         src, places = head + part * int(fields[2]) + tail, list(map(int, fields[11:15]))
-        listing, view = run("lc3_list", src), run("lc3_explain", src)
+        listing, view = run("lc3_list", src), run("lc3_files", src)
         number = int(listing[0].split()[1]) if listing[0].startswith("REFUSED") else 0
         if number not in (11, 41) and number != int(fields[10]):
             fault = "number"
@@ -109,7 +110,7 @@ def words(step=2048):
     faults = 0
     for first in range(0, 65536, step):
         block = ".orig x3000\n%s\n.end\n"
-        view = run("lc3_explain", (block % "\n".join(".fill x%04X" % w for w in range(first, first + step))).encode())
+        view = run("lc3_files", (block % "\n".join(".fill x%04X" % w for w in range(first, first + step))).encode())
         texts = [l[32:].split(";")[0] for l in view if re.match(r"x\w{4}  x", l)]
         back = run("lc3_list", (block % "\n".join(texts)).encode())
         got = [int(l.split()[1], 16) for l in back if re.match(r"[0-9A-F]{4} ", l)]
