@@ -60,7 +60,7 @@ def refusal_fault(src, number, name, places, view):
     if not found:
         return "heading"
     if number in (11, 41):
-        return None if view[0] == "source: " + found.group(1) and view[1:] == [""] else "no place"
+        return None if view[0] == "-: " + found.group(1) and view[1:] == [""] else "no place"
     start, end, start2, end2 = places
     if number in (13, 14, 15) and not view.pop(3).startswith("note: "):
         return "note"
