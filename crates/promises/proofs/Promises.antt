@@ -100,6 +100,7 @@ use Rattle.object_answer.specs.Meant.{AcceptedCall}
 use Rattle.object_answer.specs.Meant.{meant as meantAnswer}
 use Rattle.object_answer.proofs.Leaving as Leaving
 use Rattle.list_print.specs.Program as Program
+use Rattle.stored_list.specs.Stored.{storedListing}
 use Rattle.stored_load.specs.Call as LoadCall
 use Rattle.stored_load.specs.Call.{Loaded}
 use Rattle.stored_load.proofs.Accepting as Loading
@@ -107,7 +108,7 @@ use Rattle.stored_load.proofs.Back as LoadingBack
 use Rattle.asm.specs.Call.{called, Assembled}
 use Rattle.lc3_answers.specs.Told as Told
 use Rattle.lc3.specs.Calls as Calls
-use Rattle.lc3.specs.Calls.{checked, LinkCall, ListCall, LookupCall, RevLookupCall}
+use Rattle.lc3.specs.Calls.{checked, placeTold, RefusalCall, LinkCall, ListCall, LookupCall, RevLookupCall}
 
 -- TOKENS. Each token is the longest match of the patterns of lex.rs at its place, at equal length of the pattern declared first:
 -- a number or register before a word. It is so of every first byte and every rest, and there is one longest match only.
@@ -447,8 +448,13 @@ pub listing-program-one-answer :
     (src : List ℕ) (more : Bool) (len r s : ℕ) (x y : List ℕ) → Program.Listed src more len r x → Program.Listed src more len s y → (r ≡ s) × (x ≡ y)
 listing-program-one-answer src more len r s x y = Program.listed-once src len more
 
+-- The same of stored bytes, `stored_list::list_stored`: the text holds the listing of their object, or the line of 50 or 41.
+pub stored-listing-one-answer :
+    (b : List ℕ) (len r s : ℕ) (x y : List ℕ) → Program.Wrote (storedListing b) len r x → Program.Wrote (storedListing b) len s y → (r ≡ s) × (x ≡ y)
+stored-listing-one-answer b len r s x y p q = (Program.one-count p q, Program.one-buffer p q)
+
 -- THE CALLS FROM OTHER LANGUAGES, crate `lc3`. Two answers of nine numbers that a contract allows are equal: `lc3_next_token`; `lc3_first_refusal`; `lc3_disassemble`;
--- `lc3_assemble`, and the six buffers too; `lc3_link`, and the six buffers too; `lc3_list` and `lc3_store`, and the buffer of bytes too; `lc3_check`; `lc3_load`, and the six buffers too; `lc3_lookup_label`; `lc3_rev_lookup_label`.
+-- `lc3_assemble`, and the six buffers too; `lc3_link`, and the six buffers too; `lc3_list` and `lc3_store`, and the buffer of bytes too; `lc3_check`; `lc3_load`, and the six buffers too; `lc3_lookup_label`; `lc3_rev_lookup_label`; `lc3_place`; `lc3_refusal`, and its text too.
 pub lc3-next-token-one-answer :
     (s : List ℕ) (at : ℕ) (x y : List ℕ) → x ≡ numbers (Told.nextTold (coded (nextToken s at))) → y ≡ numbers (Told.nextTold (coded (nextToken s at))) → x ≡ y
 lc3-next-token-one-answer s at x y p q = p ∙ sym q
@@ -498,3 +504,9 @@ lc3-lookup-label-one-answer c b m x y = Calls.lookup-call-once
 
 pub lc3-rev-lookup-label-one-answer : (c : Counts) (b : Buffers) (a : ℕ) (x y : List ℕ) → RevLookupCall c b a x → RevLookupCall c b a y → x ≡ y
 lc3-rev-lookup-label-one-answer c b a x y = Calls.rev-lookup-call-once
+
+pub lc3-place-one-answer : (s : List ℕ) (i : ℕ) (x y : List ℕ) → x ≡ numbers (placeTold s i) → y ≡ numbers (placeTold s i) → x ≡ y
+lc3-place-one-answer s i x y p q = p ∙ sym q
+
+pub lc3-refusal-one-answer : (n len : ℕ) (t u x y : List ℕ) → RefusalCall n len t x → RefusalCall n len u y → (t ≡ u) × (x ≡ y)
+lc3-refusal-one-answer n len t u x y = Calls.refusal-call-once
