@@ -18,7 +18,7 @@ pub enum Ident {
 // The shortest reserved word and the longest, in bytes.
 const SHORTEST: usize = 2;
 
-const LONGEST: usize = 5;
+pub const LONGEST: usize = 5;
 
 // Where a row has its word's length and its code; how many cells it has, and how many rows there are.
 const LENGTH: usize = LONGEST;

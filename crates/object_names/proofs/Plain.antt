@@ -17,6 +17,7 @@ use Rattle.base_text.proofs.Rest.{from-start, from-step, from-end}
 use Rattle.base_text.proofs.ByteLaws.{upper-low}
 use Rattle.lex_reserved.specs.Ident.{identOf}
 use Rattle.lex_reserved.specs.declared.Ident.{Ident}
+use Rattle.lex_reserved.proofs.Rule.{ident-long}
 use Rattle.object_names.specs.Whole.{isLabel}
 use Rattle.object_names.specs.Plain.{capital, beginning, allCapital, plain}
 use Rattle.object_names.proofs.Judged.{no-right, word-free}
@@ -202,3 +203,6 @@ pub plain-word : (l : List ℕ) {x y z : Bool} {i : Ident} → (length l ≡ 0 �
     → i ≡ identOf (map upper l) → z ≡ isLabel i → z ≡ plain l
 plain-word [] h p e q f k m = absurd (h refl)
 plain-word (c ∷ s) h p e q f k m = m ∙ (ap isLabel k ∙ sym (rw (sym p ∙ e, sym q ∙ f) refl))
+
+pub plain-long : (l : List ℕ) {x y : Bool} → (length l ≡ 0 → ⊥) → x ≡ beginning (getD l 0 0) → x ≡ true → y ≡ allCapital l → y ≡ true → 5 < length l → true ≡ plain l
+plain-long l h p e q f k = plain-word l h p e q f (ident-long l (omega arith) k) refl

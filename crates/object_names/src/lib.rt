@@ -122,6 +122,9 @@ fn is_plain(name: &[u8]) -> bool
     }
     if begins_word(name[0]) {
         if all_capital(name) {
+            if lex_reserved::LONGEST < name.len() {
+                return true;
+            }
             return is_free(lex_reserved::ident_of(name));
         }
         return false;

@@ -1,18 +1,17 @@
 -- The loop that puts labels: what it keeps, and each way through its body. Assumes nothing.
-use mathlib.Core.Path.{_≡_, refl, sym, _∙_}
-use mathlib.Core.Bool.{false}
+use mathlib.Core.Path.{_≡_, refl, _∙_}
 use mathlib.Core.List.{List}
 use mathlib.Core.Logic.{⊎-elim}
 use Prim.Native.Nat.{ℕ, _+_, _-_, _≤_, _<_}
 use native.Mathlib.Omega.{arith}
 use lib.ListN.{length, getD, set}
-use Rattle.rules.specs.Buffers.{Buffers, six, short, lentWords}
+use Rattle.rules.specs.Buffers.{six}
 use Rattle.rules.specs.Stored.{State, next}
 use Rattle.laws_stored.specs.Offsets.{numberAt, partAt}
 use Rattle.stored_walk.specs.declared.Walk.{Walk}
-use Rattle.stored_walk.specs.Walking.{Tells, Going, Onward}
+use Rattle.stored_walk.specs.Walking.{Tells, Going}
 use Rattle.stored_walk.specs.Behind.{NamedAt}
-use Rattle.stored_put.specs.Laid.{Laid, Meets, Puts, LabelRoom, Labelled}
+use Rattle.stored_put.specs.Laid.{Puts, LabelRoom, Labelled}
 use Rattle.stored_put.proofs.Meeting.{puts-defined, puts-external}
 use Rattle.stored_run.specs.Following.{behindLabels, nameStart, LabelEnds}
 use Rattle.stored_run.proofs.Names.{start-defined, start-other, named-there}

@@ -5,10 +5,9 @@ use mathlib.Core.List.{List}
 use mathlib.Core.Logic.{inl, inr}
 use Prim.Native.Nat.{ℕ, _+_, _-_, _≤_, _<_}
 use native.Mathlib.Omega.{arith}
-use lib.ListN.{length, getD}
-use lib.Dec.{eqb}
+use lib.ListN.{length, getD, take, drop}
 use borrow.Author.Tests.{eq-eqb, ne-eqb}
-use Rattle.rules.specs.Objects.{Name, goodName}
+use Rattle.rules.specs.Objects.{goodName}
 use Rattle.laws_stored.specs.Offsets.{partAt}
 use Rattle.laws_stored.proofs.Accepted.{found-extent}
 use Rattle.base_text.specs.Names.{ordered}
@@ -16,7 +15,7 @@ use Rattle.base_text.specs.declared.Order.{Order}
 use Rattle.base_text.specs.declared.Order.the-variants.{Less}
 use Rattle.object.proofs.Order.{is-less}
 use Rattle.stored_read.proofs.Found.{Stands}
-use Rattle.stored_walk.specs.Behind.{nameFits, NamedAt}
+use Rattle.stored_walk.specs.Behind.{NamedAt}
 use Rattle.stored_walk.proofs.Standing.{heads}
 use Rattle.stored_walk.proofs.Labels.{fits-less, named-defined, named-outer}
 use Rattle.stored_run.specs.Following.{nameStart, EndsAbove, LabelEnds}
@@ -34,9 +33,9 @@ start-other b at e = rw (nameStart, ne-eqb (getD b at 0) 4 e) refl
 -- A NAME ABOVE ANOTHER
 
 module _ {b : List ℕ} {last at start end : ℕ} where
-  pub above-taken : {m name : Name} {o : Order} {g : Bool} → name ≡ partAt b start (end - start) → m ≡ partAt b last (at - last) → o ≡ ordered m name → o ≡ Less → g ≡ goodName name → g ≡ true
-      → EndsAbove b last at start end end
-  above-taken {m} {name} p q e l g t = record { ends = λ n. refl; fits = λ n. rw (← p, ← q) (fits-less m name (is-less m name e l) ∙ (sym g ∙ t)) }
+  pub above-taken : {o : Order} {g : Bool} → o ≡ ordered (take (at - last) (drop last b)) (take (end - start) (drop start b)) → o ≡ Less → g ≡ goodName (take (end - start) (drop start b)) → g ≡ true → EndsAbove b last at start end end
+  unfolding partAt
+  above-taken e l g t = record { ends = λ n. refl; fits = λ n. fits-less _ _ (is-less _ _ e l) ∙ (sym g ∙ t) }
 
   pub above-none : EndsAbove b last at start end at
   above-none = record { ends = λ n. absurd (n refl); fits = λ n. absurd (n refl) }

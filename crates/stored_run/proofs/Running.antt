@@ -68,6 +68,7 @@ pub record Running (b old places : List ℕ) (w : Walk) (last at n m : ℕ) : Ty
   pub owed : w .owed ≡ 0
   pub relocs : w .relocations ≡ 0
   pub further : w .at ≤ at
+  pub order : last ≤ at
   pub state : State
   pub tells : Tells b places (behindLabels w at n m) state
   pub name : state .last ≡ partAt b last (at - last)
@@ -96,6 +97,7 @@ running-none g z = record {
   owed = z .1;
   relocs = z .2;
   further = omega arith;
+  order = omega arith;
   state = g .state;
   tells = tells-none (g .tells) z;
   name = name-none (g .tells) z;
@@ -123,6 +125,7 @@ module _ {b old places : List ℕ} {w : Walk} {last at n m : ℕ} (f : Running b
         owed = f .owed;
         relocs = f .relocs;
         further = omega (arith, f .further, named-further (u .named d));
+        order = u .named d .order;
         state = _;
         tells = one-on w (f .tells) (f .name) (f .owed) (f .relocs) l u d .tells;
         name = next-last w (f .tells) (f .name) (f .owed) (f .relocs) l u d;

@@ -48,10 +48,11 @@ pub fn name_start(bytes: &[u8], at: usize) -> usize
 
 // Where a name ends, if it may follow the one from `last` up to `at`; if not, `at`.
 fn end_above(bytes: &[u8], last: usize, at: usize, start: usize, end: usize) -> usize
+    requires { ⌜ (last ≤ at) × (at ≤ start) × (start ≤ end) × (end ≤ length (now bytes)) ⌝ }
     ensures { λ r. ⌜ EndsAbove (now (bytes .entry)) last at start end r ⌝ }
 {
-    let name = stored_read::part_of(bytes, start, end);
-    match base_text::compare_bytes(stored_read::part_of(bytes, last, at), name) {
+    let name = &bytes[start..end];
+    match base_text::compare_bytes(&bytes[last..at], name) {
         Order::Less => {
             if object_names::is_label(name) {
                 return end;
@@ -65,6 +66,7 @@ fn end_above(bytes: &[u8], last: usize, at: usize, start: usize, end: usize) -> 
 
 // Where a field that is whole ends, if it is that of a label whose name may follow the one from `last` up to `at`; if not, `at`.
 fn field_end(bytes: &[u8], last: usize, at: usize, tag: u8, start: usize, end: usize) -> usize
+    requires { ⌜ last ≤ at ⌝ }
     requires { ⌜ Stands (now bytes) at tag start end ⌝ }
     ensures { λ r. ⌜ LabelEnds (now (bytes .entry)) last at r ⌝ }
 {
@@ -82,6 +84,7 @@ fn field_end(bytes: &[u8], last: usize, at: usize, tag: u8, start: usize, end: u
 
 // Where the field at `at` ends, if it is that of a label whose name may follow the one from `last` up to `at`; if not, `at`.
 pub fn label_end(bytes: &[u8], last: usize, at: usize) -> usize
+    requires { ⌜ last ≤ at ⌝ }
     ensures { λ r. ⌜ LabelEnds (now (bytes .entry)) last at r ⌝ }
 {
     match stored_read::field_at(bytes, at) {

@@ -69,13 +69,13 @@ passed-steps m ms i (suc k) p l h =
     let e : i + suc k ≡ (i + k) + 1 = omega arith in
     rw e (passed-more m ms (i + k) (passed-steps m ms i k p (omega arith) (λ j q. h j (omega arith))) (omega arith) (h k (omega arith)))
 
-pub passed-step : (m : ℕ) (ms : List ℕ) (i : ℕ) {x : List ℕ} {r : Bool} → Passed m ms i → 64 ≤ length ms - i → x ≡ take ((i + 64) - i) (drop i ms) → Decides (Alike m x (length x)) r → r ≡ true
-    → Passed m ms (i + 64)
+pub passed-step : (m : ℕ) (ms : List ℕ) (i : ℕ) {x : List ℕ} {r : Bool} → Passed m ms i → 256 ≤ length ms - i → x ≡ take ((i + 256) - i) (drop i ms) → Decides (Alike m x (length x)) r → r ≡ true
+    → Passed m ms (i + 256)
 passed-step m ms i p l e d y =
-    let n : (i + 64) - i ≡ 64 = omega arith in
+    let n : (i + 256) - i ≡ 256 = omega arith in
     let f = rw (e, n) at (d .yes y) in
-    let s : length (take 64 (drop i ms)) ≡ 64 = length-take-le 64 (drop i ms) (omega (arith, length-drop i ms)) in
-    passed-steps m ms i 64 p (omega (arith, p .within)) (λ j q. sym (getD-take 64 (drop i ms) j 0 q ∙ getD-drop i ms j 0) ∙ f j (omega arith))
+    let s : length (take 256 (drop i ms)) ≡ 256 = length-take-le 256 (drop i ms) (omega (arith, length-drop i ms)) in
+    passed-steps m ms i 256 p (omega (arith, p .within)) (λ j q. sym (getD-take 256 (drop i ms) j 0 q ∙ getD-drop i ms j 0) ∙ f j (omega arith))
 
 alike-none : (m x : ℕ) (ms : List ℕ) → (x ≡ m → ⊥) → alike m (x ∷ ms) ≡ 0
 unfolding alike

@@ -17,7 +17,7 @@ ghost use Rattle.stored_write_blocks.specs.Runs.{Alike, alike, Passed, r
 ghost use Rattle.stored_write_blocks.specs.Blocks.{blockBytes, blocksBytes, MarksOk, BlocksSized};
 
 // How many marks are looked at in one step.
-const STEP: usize = 64;
+const STEP: usize = 256;
 
 // Every mark is `mark`. The loop has no exit, so that many are looked at at once.
 fn all_alike(marks: &[u8], mark: u8) -> bool

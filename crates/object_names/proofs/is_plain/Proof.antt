@@ -1,5 +1,5 @@
 -- `object_names::is_plain` meets its contract. Assumes nothing.
-use Rattle.object_names.proofs.Plain.{plain-none, plain-other, plain-mixed, plain-word}
+use Rattle.object_names.proofs.Plain.{plain-none, plain-other, plain-mixed, plain-long, plain-word}
 use borrow.Author.Needs.{needs}
 use Rattle.object_names.proofs.is_plain.Statement.{statement}
 use Rattle.object_names.proofs.is_plain.Tie as tie
@@ -12,6 +12,7 @@ is-plain-spec =
     (λ c. search needs)
     (λ c κs. search needs)
     (λ c κs. search needs)
+    (λ c. search (needs, plain-long))
     (λ c κs. search needs)
     (λ c κs. search needs)
     (λ c. search (needs, plain-word))
