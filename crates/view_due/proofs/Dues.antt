@@ -1,7 +1,6 @@
 -- What is due, token by token and label by label. Assumes nothing.
 use Prim.Native.Nat.{ℕ, zero, suc, _+_, _-_, _≤_, _<_}
 use mathlib.Core.Path.{_≡_, refl, sym, _∙_, ap}
-use mathlib.Core.Bool.{Bool, true, false}
 use mathlib.Core.List.{List, [], _∷_, map}
 use mathlib.Core.Option.{Option, none, some}
 use native.Mathlib.Decide.{decLt, decLe}
@@ -9,8 +8,8 @@ use native.Mathlib.Omega.{arith}
 use borrow.Author.Tests.{le-leb, lt-leb}
 use lib.Dec.{leb}
 use lib.ListN.{length, getD, take, drop}
-use Rattle.rules.specs.Base.{if_then_else_, Outcome, ok, refused, Span, span, nowhere}
-use Rattle.rules.specs.Tokens.{Kind, Token, tokenIn, directive, nextToken, upper}
+use Rattle.rules.specs.Base.{if_then_else_, Span, span, nowhere}
+use Rattle.rules.specs.Tokens.{tokenIn, directive, nextToken, upper}
 use Rattle.rules.specs.Words.{Field, Row, find, instructions, directives}
 use Rattle.rules.specs.Statements.{Name, isMark, asWord, asDirective, pastLines, pastLabels, pastLabel, labelsAt, nameAt}
 use Rattle.rules.proofs.Ahead.{token-ends, names-on, names-done, label-in}
@@ -33,8 +32,8 @@ use Rattle.view_due.specs.declared.Due.{Due}
 use Rattle.view_due.specs.declared.Due.the-variants.{Statement, Directive, Comma, LineEnd, Operand}
 use Rattle.view_due.specs.declared.Onward as step
 use Rattle.view_due.specs.declared.Onward.the-variants as go
-use Rattle.view_due.specs.Wanted.{Wanted, statement, comma, lineEnd, operand, startAt, endAt, found, next, operandOr, dueFrom, rowOf, dueBehind, dueHead, dueBy, dueAt, lastPlace, labelBefore}
-use Rattle.view_due.specs.Coded.{meant, onward, Coded, Coding}
+use Rattle.view_due.specs.Wanted.{Wanted, statement, startAt, endAt, operandOr, dueFrom, rowOf, dueBehind, dueHead, dueBy, dueAt, lastPlace, labelBefore}
+use Rattle.view_due.specs.Coded.{meant, onward, Coding}
 
 -- A TOKEN'S PLACE
 module _ (s : List ℕ) (i : ℕ) (t : Lexeme) (h : Stands s i t) where

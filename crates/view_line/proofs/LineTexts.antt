@@ -1,7 +1,7 @@
 -- A line and its carets as they are put. Assumes nothing.
 use Prim.Native.Nat.{ℕ, _+_, _-_, _<_, _≤_, min}
-use mathlib.Core.Path.{_≡_, refl, sym, _∙_, ap}
-use mathlib.Core.Bool.{Bool, true, false, _&&_, _||_}
+use mathlib.Core.Path.{_≡_, refl, sym, ap}
+use mathlib.Core.Bool.{true, false, _&&_, _||_}
 use mathlib.Core.List.{List, [], _∷_, _++_, map, map-append}
 use native.Mathlib.Numerals.{add-one}
 use native.Mathlib.Omega.{arith}
@@ -10,7 +10,6 @@ use lib.Dec.{eqb, leb, ltb}
 use lib.ListN.{length, getD, take, drop}
 use lib.Seq.{take-suc, take-all}
 use Rattle.rules.specs.Base.{if_then_else_, bytes}
-use Rattle.rules.specs.Listing.{lf}
 use Rattle.lex_token.specs.Meant.{part}
 use Rattle.view_places.specs.Lines.{lineStart, lineStop}
 use Rattle.view_text.specs.Put.{Put}

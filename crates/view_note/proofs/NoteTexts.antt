@@ -1,13 +1,12 @@
 -- A note's texts as they are put. Assumes nothing.
-use Prim.Native.Nat.{ℕ, zero, suc, _+_, _≤_, _<_}
+use Prim.Native.Nat.{ℕ, zero, suc, _+_}
 use mathlib.Core.Path.{_≡_, refl, sym, _∙_, ap}
 use mathlib.Core.Bool.{Bool, true, false}
 use mathlib.Core.List.{List, [], _∷_, _++_}
 use native.Mathlib.Decide.{decLt}
 use native.Mathlib.Omega.{arith}
 use borrow.Author.Tests.{eq-eqb, ne-eqb}
-use lib.Dec.{eqb}
-use Rattle.rules.specs.Base.{if_then_else_, bytes, Span}
+use Rattle.rules.specs.Base.{if_then_else_, bytes}
 use Rattle.rules.specs.Words.{Field}
 use Rattle.rules.specs.Statements.{asNumber}
 use Rattle.lex_token.specs.Meant.{kindAt}

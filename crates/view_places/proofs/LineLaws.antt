@@ -8,7 +8,7 @@ use native.Mathlib.Omega.{arith}
 use lib.ListN.{length, getD, take}
 use borrow.Author.Tests.{eq-eqb, ne-eqb}
 use Rattle.rules.specs.Base.{if_then_else_, is}
-use Rattle.rules.specs.Tokens.{begins, line}
+use Rattle.rules.specs.Tokens.{line}
 use Rattle.base_text.specs.Runs.{from}
 use Rattle.base_text.proofs.Rest.{from-start, from-step, from-end, begins-at}
 use Rattle.view_places.specs.Lines.{feed, feeds, moved, sinceFrom, since, lineStart, lineStop, endsLine}

@@ -3,13 +3,13 @@ use Prim.Native.Nat.{ℕ, _≤_, _<_}
 use Prim.Native.String.{String}
 use mathlib.Core.Path.{_≡_, refl, sym, _∙_, ap}
 use mathlib.Core.Bool.{Bool, true, false, _&&_}
-use mathlib.Core.List.{List, [], _∷_, map}
+use mathlib.Core.List.{List, [], _∷_}
 use native.Mathlib.Decide.{decLt}
 use native.Mathlib.Omega.{arith}
 use borrow.Author.Tests.{ltb-true, ne-eqb}
 use lib.Dec.{eqb, ltb}
-use lib.ListN.{length, getD, List·getD-map, List·getD-eq-default}
-use Rattle.rules.specs.Base.{if_then_else_, bytes, same}
+use lib.ListN.{getD, List·getD-map, List·getD-eq-default}
+use Rattle.rules.specs.Base.{bytes, same}
 use Rattle.rules.specs.Buffers.{tab}
 use Rattle.rules.specs.Answers.{refusals, nameIn, refusalName}
 use Rattle.rules.specs.Tokens.{while, wordy, digit, letter}
