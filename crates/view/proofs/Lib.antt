@@ -1,0 +1,2 @@
+-- Laws that the proofs of `view` cite. Assumes nothing.
+pub mod Printing
