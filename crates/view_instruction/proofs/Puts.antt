@@ -1,6 +1,6 @@
 -- Operands and mnemonics put one behind the other are an instruction's text. Assumes nothing.
 use Prim.Native.Nat.{ℕ, _+_, _-_, _%_, _<_, _≤_}
-use mathlib.Core.Path.{_≡_, refl, sym, _∙_, ap}
+use mathlib.Core.Path.{_≡_, refl, sym, ap}
 use mathlib.Core.List.{List, [], _∷_, _++_, append-nil, append-assoc}
 use borrow.Author.Tests.{lt-ltb, le-ltb}
 use Rattle.rules.specs.Base.{if_then_else_, bytes}

@@ -1,6 +1,5 @@
 -- A line of disassembly as a person reads it: an instruction's mnemonic and operands, or a fill; and how far it reaches. Assumes nothing.
 use Prim.Native.Nat.{ℕ, _+_, _-_, _%_}
-use Prim.Native.String.{String}
 use mathlib.Core.List.{List, [], _∷_, _++_}
 use mathlib.Core.Option.{Option, none, some}
 use lib.Dec.{ltb}

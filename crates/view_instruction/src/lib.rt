@@ -5,7 +5,7 @@ ghost use mathlib.Core.List.{[], _∷_, _++_};
 ghost use Rattle.isa.specs.Instructions.{operandOf, meant};
 ghost use Rattle.isa.specs.Disassembly.{meantLine};
 ghost use Rattle.view_text.specs.Put.{Put};
-ghost use Rattle.view_instruction.specs.Lines.{reg, number, offset, vector, lastPart, spelling, signedText, partText, space, comma, partsText, instrText, lineText, partsReach, lineReach};
+ghost use Rattle.view_instruction.specs.Lines.{reg, number, offset, vector, lastPart, spelling, signedText, partText, space, partsText, instrText, lineText, partsReach, lineReach};
 ghost use Rattle.view_instruction.specs.Spelled.{keyRow, keyText, partsOf, reached};
 use base_casts::long16;
 use base_casts::wide16;

@@ -1,9 +1,9 @@
 -- Blocks and labels read from their rows, and the place of a word. Assumes nothing.
 use Prim.Native.Nat.{ℕ, suc, _+_, _-_, _*_, _%_, _≤_, _<_}
-use mathlib.Core.Path.{_≡_, refl, sym, _∙_, ap}
-use mathlib.Core.Bool.{Bool, true, false, not}
+use mathlib.Core.Path.{_≡_, refl, sym, _∙_}
+use mathlib.Core.Bool.{Bool, true, false}
 use mathlib.Core.List.{List}
-use mathlib.Core.Option.{Option, none, some}
+use mathlib.Core.Option.{none, some}
 use native.Mathlib.Omega.{arith}
 use borrow.Author.Tests.{lt-ltb, le-ltb}
 use lib.Dec.{ltb}
@@ -12,7 +12,7 @@ use Rattle.rules.specs.Base.{if_then_else_}
 use Rattle.rules.specs.Words.{offset}
 use Rattle.view_word.specs.First.{first}
 use Rattle.view_word.specs.Labels.{definedRow}
-use Rattle.view_object.specs.Pieces.{Place, place, placeFrom, placeOf, covers, hasWord, labelAddress, apart}
+use Rattle.view_object.specs.Pieces.{place, placeFrom, placeOf, covers, hasWord, labelAddress, apart}
 
 -- a row's first cell
 first-cell : (s : List ℕ) (j : ℕ) → getD s (j + 0) 0 ≡ getD s j 0

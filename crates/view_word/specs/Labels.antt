@@ -1,10 +1,10 @@
 -- The label rows of an object at an address, and their own lines. Rows are read as the rules read them: past a buffer's end there are zeros. Assumes nothing.
 use Prim.Native.Nat.{ℕ, zero, suc, _+_, _*_}
 use mathlib.Core.Bool.{Bool, _&&_}
-use mathlib.Core.List.{List, [], _∷_, _++_}
+use mathlib.Core.List.{List, [], _++_}
 use lib.Dec.{eqb, ltb}
 use lib.ListN.{getD}
-use Rattle.rules.specs.Base.{if_then_else_, bytes}
+use Rattle.rules.specs.Base.{if_then_else_}
 use Rattle.rules.specs.Buffers.{nameRow}
 use Rattle.rules.specs.Listing.{lf}
 use Rattle.view_text.specs.Texts.{padded, hexText}
