@@ -3,7 +3,7 @@
 use crate::generate::routines;
 use crate::lent::{Kept, Six, Sizes};
 use crate::random::Random;
-use lc3::Object;
+use lc3::{raw, Object};
 use lc3_ensemble::asm::{assemble_debug, encoding, ObjectFile};
 use lc3_ensemble::parse::lex::Token;
 use lc3_ensemble::parse::parse_ast;
@@ -41,10 +41,61 @@ fn labels() -> String {
     format!(".orig x3000\n{}.end\n", lines.collect::<String>())
 }
 
+/// A word of so many letters, digits and underscores that is no number, register or reserved word, by its number.
+fn word(r: &mut Random, number: usize) -> String {
+    let letters = (0..r.between(1, 7)).map(|_| char::from(b'A' + r.below(26) as u8)).collect::<String>();
+    format!("_{letters}{number}")
+}
+
+/// A statement without labels, of one word.
+fn statement(r: &mut Random) -> String {
+    let (a, b, c) = (r.below(8), r.below(8), r.below(8));
+    match r.below(9) {
+        0 => format!("ADD R{a}, R{b}, R{c}"),
+        1 => format!("and r{a}, r{b}, #{}", r.between(-16, 15)),
+        2 => format!("NOT R{a}, R{b}"),
+        3 => format!("LDR R{a}, R{b}, #{}", r.between(-32, 31)),
+        4 => format!("str R{a}, R{b}, x{:X}", r.below(32)),
+        5 => format!(".fill {}", r.between(-32768, 65535)),
+        6 => format!(".FILL x{:04x}", r.below(65536)),
+        7 => format!("TRAP x{:02X}", r.below(256)),
+        _ => r.pick(&["RET", "PUTS", "halt", "GETC", "JSRR R3", "jmp R2"]).to_string(),
+    }
+}
+
+/// About 200 KB that does not repeat itself, so that nothing can learn it: statements, spaces and comments as they come, a label at every eighth
+/// line or so, which the lines behind it name.
+fn varied() -> String {
+    let mut r = Random::new(3);
+    let (mut text, mut last, mut labels) = (".orig x200\n".to_string(), None, 0);
+    while text.len() < 200_000 {
+        if labels < 1000 && r.below(8) == 0 {
+            labels += 1;
+            let name = word(&mut r, labels);
+            text += &format!("{name}{}", r.pick(&["", ":", "\n"]));
+            last = Some((name, 0));
+        }
+        text += &" ".repeat(1 + r.below(12));
+        text += &match (&mut last, r.below(4)) {
+            (Some((name, far)), 0) if *far < 200 => format!("{} {name}", r.pick(&["LD R0,", "BRnz", "LEA R5,", "st r2,", "BR", "JSR"])),
+            _ => statement(&mut r),
+        };
+        if let Some((_, far)) = &mut last {
+            *far += 1;
+        }
+        if r.below(3) == 0 {
+            text += &format!("  ; {}", (0..r.below(30)).map(|_| char::from(b' ' + r.below(95) as u8)).collect::<String>());
+        }
+        text.push('\n');
+    }
+    text + ".end\n"
+}
+
 fn inputs() -> Vec<(String, Vec<Vec<u8>>)> {
     let mut r = Random::new(2);
     let own = [
         ("200 KB of coursework", vec![coursework().into_bytes()]),
+        ("200 KB, no repeats", vec![varied().into_bytes()]),
         ("1,000 labels", vec![labels().into_bytes()]),
         ("500 small files", (0..500).map(|_| routines(&mut r, 3)).collect()),
         ("a 64 KB string", vec![format!(".orig 0\n.stringz \"{}\"\n.end\n", "a".repeat(64_000)).into_bytes()]),
@@ -53,10 +104,14 @@ fn inputs() -> Vec<(String, Vec<Vec<u8>>)> {
     own.into_iter().map(|(name, files)| (name.to_string(), files)).collect()
 }
 
-/// Sources that the caller names.
-fn named(paths: &[String]) -> Vec<(String, Vec<Vec<u8>>)> {
-    let read = |path: &String| std::fs::read(path).unwrap_or_else(|e| panic!("{path}: {e}"));
-    paths.iter().map(|path| (path.rsplit('/').next().unwrap_or(path).to_string(), vec![read(path)])).collect()
+/// A source that the caller names, if it can be read and both take it: what is timed is assembling.
+fn named(path: &str) -> Result<(String, Vec<Vec<u8>>), String> {
+    let bytes = std::fs::read(path).map_err(|e| format!("{path}: {e}"))?;
+    let text = std::str::from_utf8(&bytes).map_err(|e| format!("{path}: {e}"))?;
+    lc3::assemble(&bytes).map_err(|refusal| format!("{path}: {refusal}"))?;
+    let ast = parse_ast(text).map_err(|e| format!("{path}: the crate does not take it: {e}"))?;
+    assemble_debug(ast, text).map_err(|e| format!("{path}: the crate does not take it: {e}"))?;
+    Ok((path.rsplit('/').next().unwrap_or(path).to_string(), vec![bytes]))
 }
 
 fn timed(f: &mut dyn FnMut()) -> Duration {
@@ -196,12 +251,30 @@ fn bench_stored() {
     show_speed(bytes.len(), "check", best(|| copy(&mut copied), || sink(lc3::raw::check(&bytes))));
     show_speed(bytes.len(), "load", best(|| copy(&mut copied), || sink(six.load_clean(&bytes, sizes))));
     assert_eq!(stored, bytes);
+    let listing = lc3::assemble(large().as_bytes()).unwrap().list().into_bytes();
+    let (mut text, mut copied) = (vec![0; listing.len()], vec![0; listing.len()]);
+    let copy = |to: &mut Vec<u8>| black_box(to).copy_from_slice(black_box(&listing));
+    show_speed(listing.len(), "list", best(|| copy(&mut copied), || sink(lc3::raw::list(kept.lent(), &mut text))));
+    assert_eq!(text, listing);
+}
+
+/// What no assembler could do without: the source copied once, and buffers of full size cleared for each file.
+fn show_floor(name: &str, files: &[Vec<u8>]) {
+    let bytes: usize = files.iter().map(Vec::len).sum();
+    let mut copied = vec![0; files.iter().map(Vec::len).max().unwrap_or(0)];
+    let copy = || files.iter().for_each(|f| black_box(&mut copied)[..f.len()].copy_from_slice(black_box(f)));
+    let mut cleared = vec![0u8; 2 * raw::BLOCKS + 3 * raw::WORDS + 4 * raw::LABELS + 4 * raw::RELOCATIONS + raw::NAMES];
+    let clear = || files.iter().for_each(|_| black_box(&mut cleared).fill(0));
+    let (copying, clearing) = best(copy, clear);
+    let (a, b) = (copying.as_secs_f64() * 1e3, clearing.as_secs_f64() * 1e3);
+    println!("{name:<22} {bytes:>8} {:<34} {:>10} {:>10.3}", "floor: the source copied", "", a);
+    println!("{name:<22} {bytes:>8} {:<34} {:>10} {:>10.3}", "floor: the buffers cleared", "", b);
 }
 
 fn show_speed(bytes: usize, what: &str, (copy, here): (Duration, Duration)) {
     let speed = |time: Duration| bytes as f64 / time.as_secs_f64() / 1e6;
     let times = here.as_secs_f64() / copy.as_secs_f64();
-    println!("{:<22} {bytes:>8} {what:<34} {:>10.0} {:>10.0} {times:>6.2}", "30,000 words stored", speed(copy), speed(here));
+    println!("{:<22} {bytes:>8} {what:<34} {:>10.0} {:>10.0} {times:>6.2}", "30,000 words", speed(copy), speed(here));
 }
 
 fn show(name: &str, bytes: usize, what: &str, (there, here): (Duration, Duration)) {
@@ -209,12 +282,13 @@ fn show(name: &str, bytes: usize, what: &str, (there, here): (Duration, Duration
     println!("{name:<22} {bytes:>8} {what:<34} {a:>10.3} {b:>10.3} {:>6.2}", a / b);
 }
 
-/// The library's own inputs and links, or the sources named.
-pub fn bench(paths: &[String]) {
+/// The library's own inputs and links, or the sources named, if they can be timed.
+pub fn bench(paths: &[String]) -> Result<(), String> {
+    let inputs = if paths.is_empty() { inputs() } else { paths.iter().map(|path| named(path)).collect::<Result<_, _>>()? };
     println!("best of {RUNS}; a ratio above 1: the library is faster. The crate's lexer stands on a stand-in for logos.");
     println!("{:<22} {:>8} {:<34} {:>10} {:>10} {:>6}", "input", "bytes", "what", "crate ms", "here ms", "ratio");
     let mut six = Six::new();
-    for (name, files) in if paths.is_empty() { inputs() } else { named(paths) } {
+    for (name, files) in inputs {
         let bytes: usize = files.iter().map(Vec::len).sum();
         let texts: Vec<&str> = files.iter().map(|f| std::str::from_utf8(f).unwrap()).collect();
         let show = |what: &str, times| show(&name, bytes, what, times);
@@ -232,9 +306,11 @@ pub fn bench(paths: &[String]) {
         show("assemble, buffers lent once", best(whole, lent));
         let owned = || files.iter().for_each(|f| sink(lc3::assemble(f).unwrap()));
         show("assemble, buffers made each time", best(whole, owned));
+        show_floor(&name, &files);
     }
     if paths.is_empty() {
         bench_links();
         bench_stored();
     }
+    Ok(())
 }

@@ -161,10 +161,11 @@ fn main() {
     let mut args = std::env::args().skip(1);
     let done = match args.next().as_deref() {
         Some("compare") => options(args).map(|o| compare(&o)),
-        Some("bench") => {
-            bench::bench(&args.collect::<Vec<_>>());
-            Some(true)
-        }
+        Some("bench") => Some(bench::bench(&args.collect::<Vec<_>>()).unwrap_or_else(|wrong| {
+            eprintln!("harness: {wrong}");
+            std::process::exit(2)
+        }))
+        .map(|()| true),
         _ => None,
     };
     let Some(done) = done else {
