@@ -5,7 +5,7 @@ ghost use Prim.Native.Nat.{_+_, _≤_, _<_};
 ghost use lib.ListN.{length, getD};
 ghost use Rattle.rules.specs.Base.{same};
 ghost use Rattle.rules.specs.Tokens.{digit, letter, wordy, space, upper, value};
-ghost use Rattle.base_text.specs.Runs.{inClass, from, runEnd};
+ghost use Rattle.base_text.specs.Runs.{plain, inClass, from, runEnd};
 ghost use Rattle.base_text.specs.Names.{ordered};
 ghost use Rattle.base_text.specs.Keys.{twoAt, fourAt, keyAt};
 use base_casts::long8;
@@ -88,9 +88,16 @@ pub fn digit_value(b: u8) -> u8
 }
 
 // The first byte that is no ASCII character.
-const PAST_ASCII: u8 = 128;
+pub const PAST_ASCII: u8 = 128;
 
-// The classes of which a source has runs; Line is every byte but the line feed.
+// A byte of a string that stands for itself and ends nothing: no quote, no backslash, no LF and no CR.
+pub fn is_plain(b: u8) -> bool
+    ensures { λ r. ⌜ r ≡ plain b ⌝ }
+{
+    !((b == b'"') | (b == b'\\') | (b == b'\n') | (b == b'\r'))
+}
+
+// The classes of which a source has runs; Line is every byte but the line feed, Plain what stands for itself in a string.
 pub enum Class {
     Word,
     Digit,
@@ -98,6 +105,7 @@ pub enum Class {
     Hash,
     Line,
     Ascii,
+    Plain,
 }
 
 pub fn in_class(class: Class, b: u8) -> bool
@@ -110,6 +118,7 @@ pub fn in_class(class: Class, b: u8) -> bool
         Class::Hash => b == b'#',
         Class::Line => !(b == b'\n'),
         Class::Ascii => b < PAST_ASCII,
+        Class::Plain => is_plain(b),
     }
 }
 

@@ -3,3 +3,4 @@ pub mod NumberSteps
 pub mod StringSteps
 pub mod NumberRule
 pub mod StringRule
+pub mod Scanning

@@ -1,4 +1,4 @@
--- A string, one byte on, as the loop meets it, and what an escape stands for. Assumes nothing.
+-- What stands in a string where its plain bytes end, what an escape stands for, and the characters one by one. Assumes nothing.
 use Prim.Native.Nat.{ℕ, _+_, _<_, _≤_}
 use mathlib.Core.Path.{_≡_, refl, sym, _∙_}
 use mathlib.Core.Bool.{Bool, true, false, _||_}
@@ -11,9 +11,9 @@ use Rattle.rules.specs.Base.{if_then_else_}
 use Rattle.rules.specs.Tokens.{escape}
 use Rattle.base_text.specs.Runs.{from}
 use Rattle.base_text.proofs.Rest.{from-step, from-end, begins-at, first-at}
-use Rattle.lex_literals.specs.Strings.{lineStops, closes, opens, adds, isEscape, standsFor, scan, firstOf, afterBackslash, charAt}
-use Rattle.lex_literals.specs.declared.Scanned.{Scanned}
-use Rattle.lex_literals.specs.declared.Scanned.the-variants.{Closed, Open}
+use Rattle.lex_literals.specs.Strings.{lineStops, behind, special, isEscape, standsFor, firstOf, afterBackslash, charAt}
+use Rattle.lex_literals.specs.declared.Special.{Special}
+use Rattle.lex_literals.specs.declared.Special.the-variants.{Ends, Quote, Adds}
 use Rattle.lex_literals.specs.declared.StringChar.the-variants.{Char, Done}
 
 -- an escape is one character, else the backslash stays
@@ -35,24 +35,19 @@ escape-is c = go (eqb c 110) (eqb c 114) (eqb c 116) (eqb c 48) (eqb c 92) (eqb 
 
 -- one character or two
 module _ (c : ℕ) where
-  pub adds-one : {t : Bool} → t ≡ isEscape c → t ≡ true → 1 ≡ adds true c
-  unfolding adds if_then_else_
-  adds-one e t = rw (escape-is c, ← e, t)
+  pub size-one : {t : Bool} → t ≡ isEscape c → t ≡ true → 1 ≡ length (escape c)
+  unfolding if_then_else_
+  size-one e t = rw (escape-is c, ← e, t)
 
-  pub adds-two : {t : Bool} → t ≡ isEscape c → t ≡ false → 2 ≡ adds true c
-  unfolding adds if_then_else_
-  adds-two e t = rw (escape-is c, ← e, t)
+  pub size-two : {t : Bool} → t ≡ isEscape c → t ≡ false → 2 ≡ length (escape c)
+  unfolding if_then_else_
+  size-two e t = rw (escape-is c, ← e, t)
 
-pub adds-le : (escaped : Bool) (c : ℕ) → adds escaped c ≤ 2
-unfolding adds if_then_else_
-adds-le true c = rw (escape-is c) (go (isEscape c))
+pub size-le : (c : ℕ) → length (escape c) ≤ 2
+unfolding if_then_else_
+size-le c = rw (escape-is c) (go (isEscape c))
   where
     go : (t : Bool) → length (if t then standsFor c ∷ [] else 92 ∷ c ∷ []) ≤ 2
-    go true = omega arith
-    go false = omega arith
-adds-le false c = go (eqb c 92)
-  where
-    go : (t : Bool) → (if t then 0 else 1) ≤ 2
     go true = omega arith
     go false = omega arith
 
@@ -70,22 +65,41 @@ module _ (s : List ℕ) (i : ℕ) where
   unfolding lineStops
   stops-not n m = rw (ne-eqb _ _ n, ne-eqb _ _ m)
 
-module _ (escaped : Bool) (n : ℕ) (s : List ℕ) {i : ℕ} {z : Scanned} (h : i < length s) (g : scan escaped n i (from s i) ≡ z) {t : Bool} (l : t ≡ lineStops (getD s i 0) (from s (i + 1))) where
-  pub line-met : t ≡ true → Open i ≡ z
-  unfolding scan if_then_else_
-  line-met p = sym (rw (from-step s i h, ← l, p)) ∙ g
+-- WHERE PLAIN BYTES END
 
-  pub closed-met : {u : Bool} → t ≡ false → u ≡ closes escaped (getD s i 0) → u ≡ true → Closed n (i + 1) ≡ z
-  unfolding scan if_then_else_
-  closed-met p c q = sym (rw (from-step s i h, ← l, p, ← c, q)) ∙ g
+module _ (s : List ℕ) (i : ℕ) where
+  pub ends-source : length s ≤ i → Ends i ≡ special i (from s i)
+  unfolding special
+  ends-source h = rw (from-end s i h)
 
-  pub scan-again : {u o : Bool} {m : ℕ} → t ≡ false → u ≡ closes escaped (getD s i 0) → u ≡ false → m ≡ adds escaped (getD s i 0) → o ≡ opens escaped (getD s i 0) → scan o (n + m) (i + 1) (from s (i + 1)) ≡ z
-  unfolding scan if_then_else_
-  scan-again p c q a o = sym (rw (from-step s i h, ← l, p, ← c, q, ← a, ← o)) ∙ g
+  pub behind-source : length s ≤ i → Ends i ≡ behind i (from s i)
+  unfolding behind
+  behind-source h = rw (from-end s i h)
 
-pub scan-done : (escaped : Bool) (n : ℕ) (s : List ℕ) {i : ℕ} {z : Scanned} → length s ≤ i → scan escaped n i (from s i) ≡ z → Open i ≡ z
-unfolding scan
-scan-done escaped n s {i} h g = sym (rw (from-end s i h)) ∙ g
+  module _ (h : i < length s) {t : Bool} (l : t ≡ lineStops (getD s i 0) (from s (i + 1))) where
+    pub ends-line : t ≡ true → Ends i ≡ special i (from s i)
+    unfolding special if_then_else_
+    ends-line p = rw (from-step s i h, ← l, p)
+
+    pub ends-quote : t ≡ false → getD s i 0 ≡ 34 → Quote ≡ special i (from s i)
+    unfolding special if_then_else_
+    ends-quote p e = rw (from-step s i h, ← l, p, eq-eqb _ _ e)
+
+    pub ends-back : {r : Special} → t ≡ false → (getD s i 0 ≡ 34 → ⊥) → getD s i 0 ≡ 92 → r ≡ behind (i + 1) (from s (i + 1)) → r ≡ special i (from s i)
+    unfolding special if_then_else_
+    ends-back p n e q = q ∙ sym (rw (from-step s i h, ← l, p, ne-eqb _ _ n, eq-eqb _ _ e))
+
+    pub ends-other : t ≡ false → (getD s i 0 ≡ 34 → ⊥) → (getD s i 0 ≡ 92 → ⊥) → Adds 1 (i + 1) ≡ special i (from s i)
+    unfolding special if_then_else_
+    ends-other p n m = rw (from-step s i h, ← l, p, ne-eqb _ _ n, ne-eqb _ _ m)
+
+    pub behind-line : t ≡ true → Ends i ≡ behind i (from s i)
+    unfolding behind if_then_else_
+    behind-line p = rw (from-step s i h, ← l, p)
+
+    pub behind-byte : {m : ℕ} → t ≡ false → m ≡ length (escape (getD s i 0)) → Adds m (i + 1) ≡ behind i (from s i)
+    unfolding behind if_then_else_
+    behind-byte p e = rw (from-step s i h, ← l, p, e)
 
 -- the characters one by one
 back-is : (at : ℕ) (l : List ℕ) → afterBackslash at l ≡ (if isEscape (getD l 0 0) then Char (standsFor (getD l 0 0)) (at + 2) else Char 92 (at + 1))

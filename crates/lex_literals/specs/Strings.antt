@@ -8,6 +8,8 @@ use Rattle.rules.specs.Base.{if_then_else_}
 use Rattle.rules.specs.Tokens.{begins, escape}
 use Rattle.lex_literals.specs.declared.Scanned.{Scanned}
 use Rattle.lex_literals.specs.declared.Scanned.the-variants.{Closed, Open}
+use Rattle.lex_literals.specs.declared.Special.{Special}
+use Rattle.lex_literals.specs.declared.Special.the-variants.{Ends, Quote, Adds}
 use Rattle.lex_literals.specs.declared.StringChar.{StringChar}
 use Rattle.lex_literals.specs.declared.StringChar.the-variants.{Char, Done}
 
@@ -33,6 +35,15 @@ scan escaped n i (c ∷ s) =
     if lineStops c s then Open i
     else if closes escaped c then Closed n (i + 1)
     else scan (opens escaped c) (n + adds escaped c) (i + 1) s
+
+-- what stands at a place behind a backslash, and at one that no backslash stands before
+unfoldable pub behind : ℕ → List ℕ → Special
+behind i [] = Ends i
+behind i (d ∷ s) = if lineStops d s then Ends i else Adds (length (escape d)) (i + 1)
+
+unfoldable pub special : ℕ → List ℕ → Special
+special i [] = Ends i
+special i (c ∷ s) = if lineStops c s then Ends i else if eqb c 34 then Quote else if eqb c 92 then behind (i + 1) s else Adds 1 (i + 1)
 
 -- the second bytes of the six escapes
 unfoldable pub isEscape : ℕ → Bool

@@ -4,9 +4,10 @@ ghost use mathlib.Core.Bool.{false, _&&_};
 ghost use Prim.Native.Nat.{_+_, _≤_, _<_};
 ghost use lib.Dec.{ltb};
 ghost use lib.ListN.{length, getD};
+ghost use Rattle.rules.specs.Tokens.{escape};
 ghost use Rattle.base_text.specs.Runs.{from};
 ghost use Rattle.lex_literals.specs.Numbers.{stopped, numberFrom};
-ghost use Rattle.lex_literals.specs.Strings.{lineStops, closes, opens, adds, isEscape, standsFor, scan, charAt};
+ghost use Rattle.lex_literals.specs.Strings.{lineStops, isEscape, behind, special, standsFor, scan, charAt};
 
 // What reading a number finds, and where it stopped.
 pub enum Reading {
@@ -91,20 +92,6 @@ fn line_stops(src: &[u8], i: usize) -> bool
     false
 }
 
-// A quote that no backslash stands before.
-fn closes_at(escaped: bool, b: u8) -> bool
-    ensures { λ r. ⌜ r ≡ closes escaped b ⌝ }
-{
-    if escaped { false } else { b == b'"' }
-}
-
-// A backslash that no backslash stands before.
-fn opens_at(escaped: bool, b: u8) -> bool
-    ensures { λ r. ⌜ r ≡ opens escaped b ⌝ }
-{
-    if escaped { false } else { b == b'\\' }
-}
-
 // n, r, t, 0, a backslash and a quote.
 fn is_escape(b: u8) -> bool
     ensures { λ r. ⌜ r ≡ isEscape b ⌝ }
@@ -112,42 +99,87 @@ fn is_escape(b: u8) -> bool
     (b == b'n') | (b == b'r') | (b == b't') | (b == b'0') | (b == b'\\') | (b == b'"')
 }
 
-// How many characters a byte adds: the backslash stays before a byte that makes no escape with it.
-fn adds_at(escaped: bool, b: u8) -> usize
-    ensures { λ r. ⌜ r ≡ adds escaped b ⌝ }
+// How many characters a backslash and the byte behind it are: the backslash stays before a byte that makes no escape with it.
+fn escape_size(b: u8) -> usize
+    ensures { λ r. ⌜ r ≡ length (escape b) ⌝ }
 {
-    if escaped {
-        if is_escape(b) {
-            return 1;
-        }
-        return 2;
+    if is_escape(b) {
+        return 1;
     }
-    if b == b'\\' {
-        return 0;
-    }
-    1
+    2
 }
 
-// The string after a quote: to its end quote, or to the line's end.
+// What stands in a string where its plain bytes end.
+pub enum Special {
+    // The line or the source ends here.
+    Ends(usize),
+    // The end quote.
+    Quote,
+    // So many characters, and the place behind them.
+    Adds { count: usize, next: usize },
+}
+
+// What stands behind a backslash.
+fn behind_backslash(src: &[u8], i: usize) -> Special
+    ensures { λ r. ⌜ r ≡ behind i (from (now (src .entry)) i) ⌝ }
+{
+    if src.len() <= i {
+        return Special::Ends(i);
+    }
+    if line_stops(src, i) {
+        return Special::Ends(i);
+    }
+    let count = escape_size(src[i]);
+    let next = i + 1;
+    Special::Adds { count, next }
+}
+
+// What stands at a place of a string that no backslash stands before.
+fn special_at(src: &[u8], i: usize) -> Special
+    ensures { λ r. ⌜ r ≡ special i (from (now (src .entry)) i) ⌝ }
+{
+    if src.len() <= i {
+        return Special::Ends(i);
+    }
+    if line_stops(src, i) {
+        return Special::Ends(i);
+    }
+    let b = src[i];
+    let next = i + 1;
+    if b == b'"' {
+        return Special::Quote;
+    }
+    if b == b'\\' {
+        return behind_backslash(src, next);
+    }
+    Special::Adds { count: 1, next }
+}
+
+// The string after a quote: to its end quote, or to the line's end. Plain bytes are passed in runs.
 pub fn scan_string(src: &[u8], at: usize) -> Scanned
     ensures { λ r. ⌜ r ≡ scan false 0 at (from (now (src .entry)) at) ⌝ }
 {
-    let mut escaped = false;
     let mut count: usize = 0;
     let mut i = at;
-    while i < src.len() {
-        if line_stops(src, i) {
-            return Scanned::Open(i);
+    loop {
+        let stop = base_runs::plain_end(src, i);
+        count += stop - i;
+        match special_at(src, stop) {
+            Special::Ends(end) => {
+                return Scanned::Open(end);
+            }
+            Special::Quote => {
+                return Scanned::Closed {
+                    count,
+                    end: stop + 1,
+                };
+            }
+            Special::Adds { count: more, next } => {
+                count += more;
+                i = next;
+            }
         }
-        let b = src[i];
-        if closes_at(escaped, b) {
-            return Scanned::Closed { count, end: i + 1 };
-        }
-        count += adds_at(escaped, b);
-        escaped = opens_at(escaped, b);
-        i += 1;
     }
-    Scanned::Open(i)
 }
 
 // A character of a string and the place of the next, or the end quote.

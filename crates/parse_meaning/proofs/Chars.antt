@@ -1,21 +1,23 @@
 -- The characters of a string, one more at each place: what is counted or written on the way along them. Assumes nothing.
 use mathlib.Core.Path.{_≡_, refl, sym, _∙_, ap}
-use mathlib.Core.List.{List, [], _∷_}
+use mathlib.Core.List.{List, [], _∷_, _++_}
 use Prim.Native.Nat.{ℕ, zero, suc, _+_, _-_, _≤_, _<_}
-use mathlib.Core.Bool.{Bool, true, false}
+use mathlib.Core.Bool.{Bool, true, false, _||_, not}
 use native.Mathlib.Omega.{arith}
 use borrow.Author.Tests.{ltb-true, ltb-false}
 use lib.Dec.{eqb, ltb}
-use lib.ListN.{length, drop-of-length-le}
+use lib.ListN.{length, length-append, drop-of-length-le}
 use Rattle.rules.specs.Base.{if_then_else_}
-use Rattle.rules.specs.Tokens.{escape, closed, quoted, line}
+use Rattle.rules.specs.Tokens.{while, escape, closed, quoted, line}
 use Rattle.rules.proofs.Bools.{never}
-use Rattle.base_text.specs.Runs.{from}
+use Rattle.base_text.specs.Runs.{plain, inClass, from, runEnd}
+use Rattle.base_text.specs.declared.Class.the-variants.{Plain}
+use Rattle.base_text.proofs.RunLaws.{end-ge}
 use Rattle.lex_literals.specs.declared.StringChar.{StringChar}
 use Rattle.lex_literals.specs.declared.StringChar.the-variants.{Char, Done}
 use Rattle.lex_literals.specs.Strings.{firstOf, afterBackslash, charAt}
-use Rattle.lex_literals.proofs.StringRule.{Handed, char-handed}
-use Rattle.parse_meaning.specs.Reading.{charsFrom, charsAt}
+use Rattle.lex_literals.proofs.StringRule.{Handed, char-handed, from-rest}
+use Rattle.parse_meaning.specs.Reading.{charsFrom, charsAt, plainAt}
 
 -- the next character stands further on
 abbrev Onward : ℕ → StringChar → Type 0
@@ -116,6 +118,49 @@ module _ (s : List ℕ) where
   unfolding charsAt
   chars-fit i = few (length s - i) i
 
+-- A RUN OF PLAIN BYTES, each a character
+
+plain-char : (i c : ℕ) (l : List ℕ) → plain c ≡ true → charAt i (c ∷ l) ≡ Char c (i + 1)
+unfolding plain charAt if_then_else_
+plain-char i c l = go (eqb c 34) (eqb c 92) (eqb c 10) (eqb c 13)
+  where
+    go : (q b f r : Bool) → not (q || b || f || r) ≡ true → (if q then Done else if b then afterBackslash i l else Char c (i + 1)) ≡ Char c (i + 1)
+    go true b f r e = never cc
+    go false true f r e = never cc
+    go false false f r e = refl
+
+no-bytes : (l : List ℕ) → length l ≡ 0 → l ≡ []
+no-bytes [] e = refl
+no-bytes (x ∷ l) e = absurd (omega arith)
+
+module _ (s : List ℕ) where
+  run-chars : (n i : ℕ) → length (plainAt s i) ≡ n → charsAt s i ≡ plainAt s i ++ charsAt s (i + n)
+  unfolding plainAt while inClass
+  run-chars zero i e = let z : i + 0 ≡ i = omega arith in rw (no-bytes (while (inClass Plain) (from s i)) e, z)
+  run-chars (suc n) i e = by-list (from s i) refl e (run-chars n (i + 1))
+    where
+      by-list : (l : List ℕ) → from s i ≡ l → length (while (inClass Plain) l) ≡ suc n → (length (while (inClass Plain) (from s (i + 1))) ≡ n → charsAt s (i + 1) ≡ while (inClass Plain) (from s (i + 1)) ++ charsAt s (i + 1 + n)) → charsAt s i ≡ while (inClass Plain) l ++ charsAt s (i + suc n)
+      by-list [] f e again = absurd (omega arith)
+      by-list (c ∷ l) f e again = by-byte (plain c) refl e
+        where
+          by-byte : (b : Bool) → plain c ≡ b → length {A = ℕ} (elim b [ true ↦ c ∷ while (inClass Plain) l | false ↦ [] ]) ≡ suc n → charsAt s i ≡ (elim b [ true ↦ c ∷ while (inClass Plain) l | false ↦ [] ]) ++ charsAt s (i + suc n)
+          by-byte true p e =
+              let g : from s (i + 1) ≡ l = from-rest s i c l f in
+              let z : i + 1 + n ≡ i + suc n = omega arith in
+              chars-on s i c (i + 1) (ap (charAt i) f ∙ plain-char i c l p) ∙ ap (λ (t : List ℕ). c ∷ t) (again (rw g (omega arith)) ∙ rw (g, z))
+          by-byte false p e = absurd (omega arith)
+
+  module _ (i j : ℕ) (e : j ≡ runEnd Plain s i) where
+    pub run-size : j - i ≡ length (plainAt s i)
+    unfolding runEnd plainAt
+    run-size = rw e (omega arith)
+
+    pub run-after : i ≤ j
+    run-after = rw e (end-ge Plain s i)
+
+    pub chars-run : charsAt s i ≡ plainAt s i ++ charsAt s j
+    chars-run = let z : i + length (plainAt s i) ≡ j = omega (arith, run-size, run-after) in run-chars (length (plainAt s i)) i refl ∙ rw z
+
 -- COUNTED: so many of them stand before the place that is come to
 pub record Counted (s : List ℕ) (at i n : ℕ) : Type 0 where
   pub same : length (charsAt s at) ≡ n + length (charsAt s i)
@@ -123,28 +168,32 @@ pub record Counted (s : List ℕ) (at i n : ℕ) : Type 0 where
 pub counted-start : (s : List ℕ) (at : ℕ) → Counted s at at 0
 counted-start s at = record { same = omega arith }
 
-module _ (s : List ℕ) (at i n : ℕ) (v : Counted s at i n) (o : StringChar) (h : o ≡ charAt i (from s i)) where
-  module _ (c j : ℕ) (q : o ≡ Char c j) where
-    here : charAt i (from s i) ≡ Char c j
-    here = sym h ∙ q
+module _ (s : List ℕ) (at : ℕ) {n i j : ℕ} (v : Counted s at i n) (e : j ≡ runEnd Plain s i) where
+  behind-run : length (charsAt s at) ≡ n + (j - i) + length (charsAt s j)
+  behind-run = omega (arith, v .same, run-size s i j e, ap length (chars-run s i j e) ∙ length-append (plainAt s i) (charsAt s j))
 
-    one-more : length (charsAt s i) ≡ length (charsAt s j) + 1
-    one-more = ap length (chars-on s i c j here) ∙ omega arith
+  pub counted-run : n + (j - i) ≤ length s
+  counted-run = omega (arith, behind-run, chars-fit s at)
 
-    pub counted-fits : n + 1 ≤ length s
-    counted-fits = omega (arith, v .same, one-more, chars-fit s at)
+  module _ {o : StringChar} (h : o ≡ charAt j (from s j)) where
+    module _ {c k : ℕ} (q : o ≡ Char c k) where
+      here : charAt j (from s j) ≡ Char c k
+      here = sym h ∙ q
 
-    pub counted-less : length s - j < length s - i
-    counted-less = omega (arith, char-past s i c j here, char-inside s i c j here)
+      one-more : length (charsAt s j) ≡ length (charsAt s k) + 1
+      one-more = ap length (chars-on s j c k here) ∙ omega arith
 
-    pub counted-more : Counted s at j (n + 1)
-    counted-more = record { same = omega (arith, v .same, one-more) }
+      pub counted-fits : n + (j - i) + 1 ≤ length s
+      counted-fits = omega (arith, behind-run, one-more, chars-fit s at)
 
-  pub counted-all : o ≡ Done → n ≡ length (charsAt s at)
-  counted-all q = omega (arith, v .same, ap length (chars-done s i (sym h ∙ q)))
+      pub counted-less : length s - k < length s - i
+      counted-less = omega (arith, run-after s i j e, char-past s j c k here, char-inside s j c k here)
 
-  pub counted-most : n ≤ length s
-  counted-most = omega (arith, v .same, chars-fit s at)
+      pub counted-more : Counted s at k (n + (j - i) + 1)
+      counted-more = record { same = omega (arith, behind-run, one-more) }
+
+    pub counted-all : o ≡ Done → n + (j - i) ≡ length (charsAt s at)
+    counted-all q = omega (arith, behind-run, ap length (chars-done s j (sym h ∙ q)))
 
 -- THE RULE'S: where a string stands that has an end, its characters are those
 pub chars-closed : (s t : List ℕ) (at m : ℕ) → quoted false (line (from s at)) ≡ closed t m → charsAt s at ≡ t

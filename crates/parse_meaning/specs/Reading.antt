@@ -6,11 +6,13 @@ use mathlib.Core.Option.{Option, none, some}
 use Prim.Native.Nat.{ℕ, zero, suc, _+_, _-_, _≤_, _<_}
 use lib.ListN.{length}
 use Rattle.rules.specs.Base.{span}
+use Rattle.rules.specs.Tokens.{while}
 use Rattle.rules.specs.Words.{signed, instr, orig, fill, blkw, stringz, end, external}
 use Rattle.rules.specs.Words as words
 use Rattle.rules.specs.Statements.{Target, Stmt, labelsAt}
 use Rattle.parse_labels.specs.Names.{nameBetween, Between}
-use Rattle.base_text.specs.Runs.{from}
+use Rattle.base_text.specs.Runs.{inClass, from}
+use Rattle.base_text.specs.declared.Class.the-variants.{Plain}
 use Rattle.lex_literals.specs.declared.StringChar.the-variants.{Char, Done}
 use Rattle.lex_literals.specs.Strings.{charAt}
 use Rattle.parse_rows.specs.declared.Op.{Op}
@@ -34,6 +36,10 @@ charsFrom (suc k) src i = elim (charAt i (from src i)) [ Char c j ↦ c ∷ char
 
 unfoldable pub charsAt : List ℕ → ℕ → List ℕ
 charsAt src i = charsFrom (length src - i) src i
+
+-- the plain bytes from a place on
+unfoldable pub plainAt : List ℕ → ℕ → List ℕ
+plainAt src i = while (inClass Plain) (from src i)
 
 -- there is a label operand, and its name is what stands at its place
 pub record Aimed (src : List ℕ) (st : Statement) (o : Option Target) : Type 0 where

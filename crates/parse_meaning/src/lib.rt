@@ -9,14 +9,16 @@ ghost use Rattle.rules.specs.Statements.{Stmt};
 ghost use Rattle.rules.specs.Passes.{wordLen};
 ghost use Rattle.parse_meaning.specs.Reading.{charsAt, Faithful};
 
-// How many characters a string has from a place inside it.
+// How many characters a string has from a place inside it. Plain bytes are counted in runs.
 pub fn string_size(src: &[u8], at: usize) -> usize
     ensures { λ r. ⌜ (r ≡ length (charsAt (now (src .entry)) at)) × (r ≤ length (now (src .entry))) ⌝ }
 {
     let mut i = at;
     let mut count: usize = 0;
     loop {
-        match lex_literals::string_char(src, i) {
+        let stop = base_runs::plain_end(src, i);
+        count += stop - i;
+        match lex_literals::string_char(src, stop) {
             StringChar::Char { byte: _, next } => {
                 count += 1;
                 i = next;

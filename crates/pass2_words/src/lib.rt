@@ -13,7 +13,7 @@ ghost use Rattle.rules.specs.Objects.{word};
 ghost use Rattle.rules.specs.Statements.{Stmt};
 ghost use Rattle.rules.specs.Passes.{wordsOf};
 ghost use Rattle.pass1_symbols.specs.Symbols.{symbols};
-ghost use Rattle.parse_meaning.specs.Reading.{charsAt, Faithful};
+ghost use Rattle.parse_meaning.specs.Reading.{charsAt, plainAt, Faithful};
 ghost use Rattle.pass2_encode.specs.Worded.{told};
 ghost use Rattle.pass2_words.specs.Writing.{Wrote, WroteAs, Room, Roomy};
 
@@ -50,7 +50,22 @@ fn put_answer(words: &mut [u16], marks: &mut [u8], used: usize, answer: Worded) 
     }
 }
 
-// The characters of a string, from a place inside it.
+// The n plain bytes of a string from a place on, each a word.
+fn put_plain(src: &[u8], i: usize, n: usize, words: &mut [u16], marks: &mut [u8], used: usize)
+    requires { ⌜ n ≡ length (plainAt (now src) i) ⌝ }
+    requires { ⌜ Room (now words) (now marks) used n ⌝ }
+    ensures { λ _. ⌜ Wrote (now (words .entry)) (now (marks .entry)) (now (words .exit)) (now (marks .exit)) used (map word (plainAt (now (src .entry)) i)) ⌝ }
+{
+    let mut j = 0;
+    while j < n {
+        let from = i + j;
+        let to = used + j;
+        push(words, marks, to, word8(src[from]));
+        j += 1;
+    }
+}
+
+// The characters of a string, from a place inside it. Plain bytes are written in runs.
 fn put_chars(src: &[u8], words: &mut [u16], marks: &mut [u8], used: usize, at: usize) -> usize
     requires { ⌜ Room (now words) (now marks) used (length (charsAt (now src) at)) ⌝ }
     ensures { λ r. ⌜ Wrote (now (words .entry)) (now (marks .entry)) (now (words .exit)) (now (marks .exit)) used (map word (charsAt (now (src .entry)) at)) × (r ≡ used + length (charsAt (now (src .entry)) at)) ⌝ }
@@ -58,7 +73,11 @@ fn put_chars(src: &[u8], words: &mut [u16], marks: &mut [u8], used: usize, at: u
     let mut i = at;
     let mut k = used;
     loop {
-        match lex_literals::string_char(src, i) {
+        let stop = base_runs::plain_end(src, i);
+        let run = stop - i;
+        put_plain(src, i, run, words, marks, k);
+        k += run;
+        match lex_literals::string_char(src, stop) {
             StringChar::Char { byte, next } => {
                 push(words, marks, k, word8(byte));
                 k += 1;

@@ -28,6 +28,10 @@ returns-6 : tie.Need-returns-6
 unfolding inClass
 returns-6 c = rw (c .enum-told6 .given .1)
 
+returns-7 : tie.Need-returns-7
+unfolding inClass
+returns-7 c = rw (c .before .enum-told7 .given .1) (c .is-plain .ensures)
+
 pub in-class-spec : {M : Type 1} → statement M
 in-class-spec =
     tie.close
@@ -41,9 +45,12 @@ in-class-spec =
     (λ c. search needs)
     (λ c. search needs)
     (λ c. search needs)
+    (λ c. search needs)
+    (λ c κs. search needs)
     returns
     returns-2
     returns-3
     returns-4
     returns-5
-    returns-6)
+    returns-6
+    returns-7)

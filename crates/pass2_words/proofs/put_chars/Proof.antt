@@ -2,7 +2,8 @@
 use borrow.Author.Needs.{needs}
 use Prim.Native.Nat.{_-_}
 use lib.ListN.{length}
-use Rattle.pass2_words.proofs.Chars.{Putting, putting-start, putting-room, putting-less, putting-on, putting-done}
+use Rattle.parse_meaning.proofs.Chars.{run-size, run-after}
+use Rattle.pass2_words.proofs.Chars.{Putting, putting-start, run-room, behind-room, behind-fits, behind-less, behind-on, behind-done}
 use Rattle.pass2_words.proofs.put_chars.Statement.{statement}
 use Rattle.pass2_words.proofs.put_chars.Tie as tie
 
@@ -12,23 +13,22 @@ Inv-loop src words₀ marks₀ used at i₀ k₀ words marks i k = Putting src w
 abbrev μ-loop : tie.MeasureT-loop
 μ-loop src words₀ marks₀ used at i₀ k₀ words marks i k = length src - i
 
-loop-holds : tie.Need-loop-holds Inv-loop μ-loop
-loop-holds c = putting-start _ _ _ _ _ (c .before .before .before .pre)
-
-push-requires : tie.Need-push-requires Inv-loop μ-loop
-push-requires c κs = putting-room _ _ _ _ _ _ _ _ _ (c .before .before .before .before .before .before .before .loop .inv) _ (c .before .before .before .before .before .before .string-char .ensures) _ _ (c .before .before .before .before .byte .given .1)
-
 add-k : tie.Need-add-k Inv-loop μ-loop
-add-k c = let h = putting-room _ _ _ _ _ _ _ _ _ (c .before .before .before .before .before .before .before .before .before .before .before .before .loop .inv) _ (c .before .before .before .before .before .before .before .before .before .before .before .string-char .ensures) _ _ (c .before .before .before .before .before .before .before .before .before .byte .given .1) in search needs
+add-k c = let h = run-room _ _ _ _ _ _ _ _ _ (c .before .before .before .before .before .before .before .before .loop .inv) _ (c .before .before .before .before .before .before .before .plain-end .ensures) in search needs
 
-loop-less : tie.Need-loop-less Inv-loop μ-loop
-loop-less c = putting-less _ _ _ _ _ _ _ _ _ (c .before .before .before .before .before .before .before .before .before .before .before .before .loop .inv) _ (c .before .before .before .before .before .before .before .before .before .before .before .string-char .ensures) _ _ (c .before .before .before .before .before .before .before .before .before .byte .given .1)
+add-k-2 : tie.Need-add-k-2 Inv-loop μ-loop
+add-k-2 c =
+    let h = behind-fits _ _ _ _ _ _ _ _ _ _ _ _ _ (c .before .before .before .before .before .before .before .before .before .before .before .before .before .before .before .before .before .before .before .before .loop .inv) (c .before .before .before .before .before .before .before .before .before .before .before .before .before .before .before .before .before .before .before .plain-end .ensures) (c .before .before .before .before .before .before .before .before .before .before .before .before .before .before .before .before .put-plain .ensures) (search needs) (search needs) (c .before .before .before .before .before .before .before .before .before .before .before .string-char .ensures) _ _ (c .before .before .before .before .before .before .before .before .before .byte .given .1) in
+    search needs
 
 loop-again : tie.Need-loop-again Inv-loop μ-loop
-loop-again c = putting-on _ _ _ _ _ _ _ _ _ (c .before .before .before .before .before .before .before .before .before .before .before .before .loop .inv) _ (c .before .before .before .before .before .before .before .before .before .before .before .string-char .ensures) _ _ (c .before .before .before .before .before .before .before .before .before .byte .given .1) _ _ _ (c .before .before .before .before .before .word8 .ensures) (c .before .before .before .before .push .ensures) (search needs) (search needs)
+loop-again c =
+    let told = c .before .before .before .before .before .before .before .before .before in
+    let put = told .before .before .before .before .before .before .before in
+    behind-on _ _ _ _ _ _ _ _ _ _ _ _ _ (put .before .before .before .before .loop .inv) (put .before .before .before .plain-end .ensures) (put .put-plain .ensures) (search needs) (search needs) (told .before .before .string-char .ensures) _ _ (told .byte .given .1) _ _ _ (c .before .before .before .before .before .word8 .ensures) (c .before .before .before .before .push .ensures) (search needs) (search needs)
 
 returns : tie.Need-returns Inv-loop μ-loop
-returns c = putting-done _ _ _ _ _ _ _ _ _ (c .before .before .before .loop .inv) _ (c .before .before .string-char .ensures) (c .enum-told .given .1)
+returns c = behind-done _ _ _ _ _ _ _ _ _ _ _ _ _ (c .before .before .before .before .before .before .before .before .before .before .before .loop .inv) (c .before .before .before .before .before .before .before .before .before .before .plain-end .ensures) (c .before .before .before .before .before .before .before .put-plain .ensures) (search needs) (search needs) (c .before .before .string-char .ensures) (c .enum-told .given .1)
 
 pub put-chars-spec : {M : Type 1} → statement M
 put-chars-spec =
@@ -36,13 +36,17 @@ put-chars-spec =
     (tie.spec
     Inv-loop
     μ-loop
-    loop-holds
+    (λ c. search (needs, putting-start))
+    (λ c κs. search needs)
+    (λ c. search (needs, run-after))
+    (λ c κs. search (needs, run-size, run-room))
+    add-k
     (λ c κs. search needs)
     (λ c. search needs)
     (λ c κs. search needs)
-    push-requires
-    add-k
-    loop-less
+    (λ c κs. search (needs, behind-room))
+    add-k-2
+    (λ c. search (needs, behind-less))
     loop-again
     (λ c. search needs)
     (λ c. search needs)

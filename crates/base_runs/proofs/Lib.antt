@@ -1,0 +1,2 @@
+-- Laws that the proofs of `base_runs` cite. Assumes nothing.
+pub mod Steps

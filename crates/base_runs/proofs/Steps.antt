@@ -1,0 +1,102 @@
+-- Bytes of a class, one on and many on, and what a run of them is. Assumes nothing.
+use Prim.Native.Nat.{ℕ, zero, suc, _+_, _-_, _≤_, _<_}
+use mathlib.Core.Path.{_≡_, refl, sym, _∙_, ap}
+use mathlib.Core.Bool.{Bool, true, false, _&&_}
+use mathlib.Core.List.{List, [], _∷_}
+use native.Mathlib.Nat.{not-suc-le-zero, le-of-suc-le-suc}
+use native.Mathlib.Omega.{arith}
+use lib.Dec.{ltb}
+use lib.ListN.{length, getD, take, drop, length-drop}
+use lib.Seq.{drop-cons, length-take-le, getD-take, getD-drop}
+use Rattle.rules.proofs.Bools.{never}
+use Rattle.base_text.specs.Runs.{plain, inClass, from, runEnd}
+use Rattle.base_text.specs.declared.Class.{Class}
+use Rattle.base_text.specs.declared.Class.the-variants.{Ascii, Plain}
+use Rattle.base_text.proofs.Rest.{from-step, from-start, from-end}
+use Rattle.base_text.proofs.RunLaws.{run-in, run-out, run-past}
+use Rattle.base_runs.specs.Every.{every}
+
+-- A LOOP OVER ALL BYTES: what the first i are, beside the rest
+
+and-right : (a : Bool) → (a && true) ≡ a
+and-right true = refl
+and-right false = refl
+
+and-first : (a b : Bool) → (a && b) ≡ true → a ≡ true
+and-first true b e = refl
+and-first false b e = never cc
+
+and-second : (a b : Bool) → (a && b) ≡ true → b ≡ true
+and-second true b e = e
+and-second false b e = never cc
+
+and-and : (a b c : Bool) → ((a && b) && c) ≡ (a && (b && c))
+and-and true b c = refl
+and-and false b c = refl
+
+-- what is known of the first i bytes
+pub record Looked (k : Class) (s : List ℕ) (a : Bool) (i : ℕ) : Type 0 where
+  pub same : (a && every k (from s i)) ≡ every k s
+
+module _ (k : Class) (s : List ℕ) where
+  pub looked-start : Looked k s true 0
+  unfolding from
+  looked-start = record { same = refl }
+
+  pub looked-next : {i : ℕ} {a t : Bool} → Looked k s a i → i < length s → t ≡ inClass k (getD s i 0) → Looked k s (a && t) (i + 1)
+  unfolding every
+  looked-next {i} {a} {t} l h e = record { same = and-and a t (every k (from s (i + 1))) ∙ rw e (sym (ap (λ (x : List ℕ). a && every k x) (from-step s i h))) ∙ l .same }
+
+  pub looked-end : {i : ℕ} {a : Bool} → Looked k s a i → length s ≤ i → a ≡ every k s
+  unfolding every
+  looked-end {i} {a} l h = sym (and-right a) ∙ sym (ap (λ (x : List ℕ). a && every k x) (from-end s i h)) ∙ l .same
+
+pub ascii-next : (s : List ℕ) {i : ℕ} {a : Bool} → Looked Ascii s a i → i < length s → Looked Ascii s (a && ltb (getD s i 0) 128) (i + 1)
+unfolding inClass
+ascii-next s l h = looked-next Ascii s l h refl
+
+pub plain-next : (s : List ℕ) {i : ℕ} {a t : Bool} → Looked Plain s a i → i < length s → t ≡ plain (getD s i 0) → Looked Plain s (a && t) (i + 1)
+unfolding inClass
+plain-next s l h e = looked-next Plain s l h e
+
+-- A RUN, many bytes on
+
+every-first : (k : Class) (s : List ℕ) (n j : ℕ) → every k (take n s) ≡ true → j < n → j < length s → inClass k (getD s j 0) ≡ true
+unfolding every
+every-first k s zero j e h l = absurd (not-suc-le-zero h)
+every-first k [] (suc n) j e h l = absurd (not-suc-le-zero l)
+every-first k (b ∷ s) (suc n) zero e h l = and-first (inClass k b) _ e
+every-first k (b ∷ s) (suc n) (suc j) e h l = every-first k s n j (and-second (inClass k b) _ e) (le-of-suc-le-suc h) (le-of-suc-le-suc l)
+
+run-on : (k : Class) (s : List ℕ) (i n : ℕ) → i + n ≤ length s → ((j : ℕ) → j < n → inClass k (getD s (i + j) 0) ≡ true) → runEnd k s i ≡ runEnd k s (i + n)
+run-on k s i zero l h = let e : i + 0 ≡ i = omega arith in rw e
+run-on k s i (suc n) l h =
+    let e : i + suc n ≡ (i + n) + 1 = omega arith in
+    run-on k s i n (omega arith) (λ j q. h j (omega arith)) ∙ run-in k s (i + n) (omega arith) (h n (omega arith)) ∙ ap (runEnd k s) (sym e)
+
+-- the runs from a place and from another end at one
+pub record Reaching (s : List ℕ) (at i : ℕ) : Type 0 where
+  pub same : runEnd Plain s i ≡ runEnd Plain s at
+  pub within : i ≤ length s
+
+module _ (s : List ℕ) (at : ℕ) where
+  pub reaching-start : (length s ≤ at → ⊥) → Reaching s at at
+  reaching-start h = record { same = refl; within = omega arith }
+
+  pub reaching-past : length s ≤ at → at ≡ runEnd Plain s at
+  reaching-past h = sym (run-past Plain s at h)
+
+  module _ (i : ℕ) (r : Reaching s at i) where
+    pub reaching-step : (p : List ℕ) {t : Bool} → 32 ≤ length s - i → p ≡ take ((i + 32) - i) (drop i s) → t ≡ every Plain p → t ≡ true → Reaching s at (i + 32)
+    reaching-step p l e d y =
+        let n : (i + 32) - i ≡ 32 = omega arith in
+        let w : i + 32 ≤ length s = omega (arith, r .within) in
+        let q : every Plain (take 32 (drop i s)) ≡ true = ap (λ (m : ℕ). every Plain (take m (drop i s))) (sym n) ∙ ap (every Plain) (sym e) ∙ sym d ∙ y in
+        let long : 32 ≤ length (drop i s) = omega (arith, length-drop i s) in
+        record {
+          same = sym (run-on Plain s i 32 w (λ j h. ap (inClass Plain) (sym (getD-drop i s j 0)) ∙ every-first Plain (drop i s) 32 j q h (omega (arith, long)))) ∙ r .same;
+          within = w;
+        }
+
+    pub reaching-end : {x : ℕ} → x ≡ runEnd Plain s i → x ≡ runEnd Plain s at
+    reaching-end e = e ∙ r .same

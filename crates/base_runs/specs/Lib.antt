@@ -1,0 +1,2 @@
+-- What the contracts of `base_runs` cite. Assumes nothing.
+pub mod Every
