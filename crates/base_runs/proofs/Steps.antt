@@ -7,13 +7,13 @@ use native.Mathlib.Nat.{not-suc-le-zero, le-of-suc-le-suc}
 use native.Mathlib.Omega.{arith}
 use lib.Dec.{ltb}
 use lib.ListN.{length, getD, take, drop, length-drop}
-use lib.Seq.{drop-cons, length-take-le, getD-take, getD-drop}
+use lib.Seq.{getD-drop, take-length}
 use Rattle.rules.proofs.Bools.{never}
 use Rattle.base_text.specs.Runs.{plain, inClass, from, runEnd}
 use Rattle.base_text.specs.declared.Class.{Class}
 use Rattle.base_text.specs.declared.Class.the-variants.{Ascii, Plain}
-use Rattle.base_text.proofs.Rest.{from-step, from-start, from-end}
-use Rattle.base_text.proofs.RunLaws.{run-in, run-out, run-past}
+use Rattle.base_text.proofs.Rest.{from-step, from-end}
+use Rattle.base_text.proofs.RunLaws.{run-in, run-past}
 use Rattle.base_runs.specs.Every.{every}
 
 -- A LOOP OVER ALL BYTES: what the first i are, beside the rest
@@ -100,3 +100,10 @@ module _ (s : List ℕ) (at : ℕ) where
 
     pub reaching-end : {x : ℕ} → x ≡ runEnd Plain s i → x ≡ runEnd Plain s at
     reaching-end e = e ∙ r .same
+
+-- ALL OF THEM
+
+pub all-run : (s : List ℕ) {t : Bool} → t ≡ every Ascii s → t ≡ true → length s ≡ runEnd Ascii s 0
+all-run s e y =
+    let q : every Ascii (take (length s) s) ≡ true = ap (every Ascii) (take-length s) ∙ sym e ∙ y in
+    sym (run-on Ascii s 0 (length s) (omega arith) (λ j h. let z : 0 + j ≡ j = omega arith in rw z (every-first Ascii s (length s) j q h h)) ∙ run-past Ascii s (0 + length s) (omega arith) ∙ omega arith)

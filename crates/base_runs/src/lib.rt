@@ -23,7 +23,7 @@ fn all_plain(s: &[u8]) -> bool
 }
 
 // Every byte is an ASCII character.
-pub fn all_ascii(s: &[u8]) -> bool
+fn all_ascii(s: &[u8]) -> bool
     ensures { λ r. ⌜ r ≡ every Ascii (now (s .entry)) ⌝ }
 {
     let mut all = true;
@@ -33,6 +33,16 @@ pub fn all_ascii(s: &[u8]) -> bool
         i += 1;
     }
     all
+}
+
+// Where the first byte stands that is no ASCII character; the length where there is none.
+pub fn ascii_end(src: &[u8]) -> usize
+    ensures { λ r. ⌜ r ≡ runEnd Ascii (now (src .entry)) 0 ⌝ }
+{
+    if all_ascii(src) {
+        return src.len();
+    }
+    base_text::run_end(src, 0, Class::Ascii)
 }
 
 // Where the run of plain bytes from `at` ends: in steps as far as these are plain, then byte by byte.

@@ -1,4 +1,4 @@
--- The walk over a whole source, one token on. Assumes nothing.
+-- A whole source: 12 by its bytes, and the walk over its tokens, one token on. Assumes nothing.
 use Prim.Native.Nat.{ℕ, zero, suc, _+_, _-_, _≤_, _<_}
 use mathlib.Core.Path.{_≡_, refl, ap, _∙_, sym, subst}
 use mathlib.Core.Bool.{Bool, true, false}
@@ -6,29 +6,30 @@ use mathlib.Core.List.{List}
 use mathlib.Core.Logic.{⊎-elim}
 use native.Mathlib.Nat.{not-suc-le-zero, le-refl}
 use native.Mathlib.Omega.{arith}
-use lib.Dec.{ltb}
-use borrow.Author.Tests.{ltb-true, ltb-false}
+use lib.Dec.{ltb, eqb}
+use borrow.Author.Tests.{ltb-true, ltb-false, eqb-true, eqb-false}
 use lib.ListN.{length, getD, take, drop, drop-of-length-le}
 use lib.Seq.{length-take-le, getD-take, take-length}
-use Rattle.rules.specs.Base.{Outcome, ok, refuse, span}
-use Rattle.rules.specs.Tokens.{mark, nextToken, ascii}
-use Rattle.rules.proofs.Walk.{tokensOn, onward, tokens-end, tokens-onward, Moves, next-moves, wholeOn, ascii-low, ascii-high}
+use Rattle.rules.specs.Base.{if_then_else_, Outcome, ok, refuse, span, verdict}
+use Rattle.rules.specs.Tokens.{tokenIn, mark, nextToken, ascii, lexed}
+use Rattle.rules.proofs.Walk.{tokensOn, onward, tokens-end, tokens-onward, Moves, next-moves, wholeOn, whole-start, ascii-low, ascii-high}
 use Rattle.rules.proofs.Bools.{never}
 use Rattle.base_text.specs.Runs.{inClass, runEnd}
 use Rattle.base_text.specs.declared.Class.the-variants as class
 use Rattle.base_text.proofs.RunLaws.{run-in, run-out, run-past}
-use Rattle.lex_token.specs.Meant.{kindAt, meant}
+use Rattle.lex_token.specs.Meant.{kindAt}
+use Rattle.lex_token.specs.declared.Lexeme.{Lexeme}
+use Rattle.lex.specs.Sorts.{kindBy, Stands}
 use Rattle.lex_token.specs.declared.Token.{Token}
 use Rattle.lex_token.specs.declared.Token.the-variants.{Unsigned, Signed, Reg, Ident, Directive, String, Colon, Comma, NewLine}
-use Rattle.lex_token.specs.declared.Next.{Next}
-use Rattle.lex_token.specs.declared.Next.the-variants.{Took, End, Refused}
-use Rattle.lex_source.specs.Lexed.{meantLexed, unlessHigh}
+use Rattle.lex_source.specs.Lexed.{meantLexed, stop, unlessHigh}
+use Rattle.lex_source.specs.declared.Lexed.{Lexed}
 use Rattle.lex_source.specs.declared.Lexed.the-variants.{Clean, Fault}
 
 -- a part up to e, looked through for a byte above x7F
 module _ (s p : List ℕ) (e : ℕ) (q : p ≡ take e s) (k : e ≤ length s) where
-  abbrev stop : ℕ → ℕ
-  stop at = runEnd class.Ascii p at
+  abbrev upto : ℕ → ℕ
+  upto at = runEnd class.Ascii p at
 
   part-long : length p ≡ e
   part-long = ap length q ∙ length-take-le e s k
@@ -37,7 +38,7 @@ module _ (s p : List ℕ) (e : ℕ) (q : p ≡ take e s) (k : e ≤ length s) wh
   part-at i h = ap (λ (l : List ℕ). getD l i 0) q ∙ getD-take e s i 0 h
 
   Looked : ℕ → Type 0
-  Looked at = (stop at < e → ascii at (drop at s) ≡ refuse 12 (span (stop at) (stop at + 1))) × (at ≤ e → e ≤ stop at → ascii at (drop at s) ≡ ascii e (drop e s))
+  Looked at = (upto at < e → ascii at (drop at s) ≡ refuse 12 (span (upto at) (upto at + 1))) × (at ≤ e → e ≤ upto at → ascii at (drop at s) ≡ ascii e (drop e s))
 
   looked : (room at : ℕ) → e - at < room → Looked at
   unfolding Looked inClass
@@ -47,16 +48,16 @@ module _ (s p : List ℕ) (e : ℕ) (q : p ≡ take e s) (k : e ≤ length s) wh
       go : (a : Bool) → ltb at e ≡ a → (b : Bool) → ltb (getD s at 0) 128 ≡ b → (at < e → Looked (at + 1)) → Looked at
       go false a b c r =
           let l : e ≤ at = ltb-false _ _ a in
-          let z : stop at ≡ at = run-past class.Ascii p at (omega (arith, part-long)) in
+          let z : upto at ≡ at = run-past class.Ascii p at (omega (arith, part-long)) in
           (λ x. absurd (omega arith), λ x y. let w : at ≡ e = omega arith in ap (λ (n : ℕ). ascii n (drop n s)) w)
       go true a true c r =
           let l : at < e = ltb-true _ _ a in
-          let z : stop at ≡ stop (at + 1) = run-in class.Ascii p at (omega (arith, part-long)) (ap (λ (n : ℕ). ltb n 128) (part-at at l) ∙ c) in
+          let z : upto at ≡ upto (at + 1) = run-in class.Ascii p at (omega (arith, part-long)) (ap (λ (n : ℕ). ltb n 128) (part-at at l) ∙ c) in
           let low : ascii at (drop at s) ≡ ascii (at + 1) (drop (at + 1) s) = ascii-low s at (omega arith) (ltb-true _ _ c) in
           (λ x. low ∙ r l .0 (omega arith) ∙ ap (λ (n : ℕ). refuse 12 (span n (n + 1))) (sym z), λ x y. low ∙ r l .1 (omega arith) (omega arith))
       go true a false c r =
           let l : at < e = ltb-true _ _ a in
-          let z : stop at ≡ at = run-out class.Ascii p at (omega (arith, part-long)) (ap (λ (n : ℕ). ltb n 128) (part-at at l) ∙ c) in
+          let z : upto at ≡ at = run-out class.Ascii p at (omega (arith, part-long)) (ap (λ (n : ℕ). ltb n 128) (part-at at l) ∙ c) in
           (λ x. ascii-high s at (omega arith) (ltb-false _ _ c) ∙ ap (λ (n : ℕ). refuse 12 (span n (n + 1))) (sym z), λ x y. absurd (omega arith))
 
   module _ (at : ℕ) {j : ℕ} (f : j ≡ runEnd class.Ascii p at) where
@@ -81,54 +82,53 @@ kind-token s a e Colon p = let z : _≡_ {A = ℕ} 58 0 = cc in omega arith
 kind-token s a e Comma p = let z : _≡_ {A = ℕ} 44 0 = cc in omega arith
 kind-token s a e NewLine p = let z : _≡_ {A = ℕ} 10 0 = cc in omega arith
 
-module _ (s : List ℕ) (at : ℕ) where
+-- nor is that of a lexeme
+sort-token : (s : List ℕ) (n : ℕ) (t : Lexeme) → n < 10 → kindBy s n t ≡ mark 0 → ⊥
+sort-token s zero t h p = never cc
+sort-token s (suc zero) t h p = never cc
+sort-token s (suc (suc zero)) t h p = never cc
+sort-token s (suc (suc (suc zero))) t h p = never cc
+sort-token s (suc (suc (suc (suc zero)))) t h p = kind-token s (t .start) (t .end) String p
+sort-token s (suc (suc (suc (suc (suc zero))))) t h p = never cc
+sort-token s (suc (suc (suc (suc (suc (suc zero)))))) t h p = kind-token s (t .start) (t .end) Directive p
+sort-token s (suc (suc (suc (suc (suc (suc (suc zero))))))) t h p = let z : _≡_ {A = ℕ} 58 0 = cc in omega arith
+sort-token s (suc (suc (suc (suc (suc (suc (suc (suc zero)))))))) t h p = let z : _≡_ {A = ℕ} 44 0 = cc in omega arith
+sort-token s (suc (suc (suc (suc (suc (suc (suc (suc (suc zero))))))))) t h p = let z : _≡_ {A = ℕ} 10 0 = cc in omega arith
+sort-token s (suc (suc (suc (suc (suc (suc (suc (suc (suc (suc k)))))))))) t h p = absurd (omega arith)
+
+module _ (s : List ℕ) (at : ℕ) (t : Lexeme) (y : Stands s at t) where
   -- a token
-  module _ {x : Next} {t : Token} {a e : ℕ} (v : x ≡ Took t a e) (y : meant s x ≡ nextToken s at) where
-    m : meant s (Took t a e) ≡ nextToken s at
-    m = ap (meant s) (sym v) ∙ y
+  module _ (h : t .sort < 10) where
+    here : nextToken s at ≡ ok (tokenIn (kindBy s (t .sort) t) (span (t .start) (t .end)))
+    here = y .token (omega (arith, h))
 
-    moved : (at < e) × (e ≤ length s)
-    unfolding meant
-    moved = ⊎-elim (λ p. absurd (kind-token s a e t (p .0))) (λ p. (p .1, p .2)) (subst (Moves s at) (sym m) (next-moves s at))
+    moved : (at < t .end) × (t .end ≤ length s)
+    moved = ⊎-elim (λ p. absurd (sort-token s (t .sort) t h (p .0))) (λ p. (p .1, p .2)) (subst (Moves s at) here (next-moves s at))
 
-    pub took-less : length s - e < length s - at
-    took-less = let p = moved in omega arith
+    pub walk-less : length s - t .end < length s - at
+    walk-less = let p = moved in omega arith
 
-    pub took-past : at < e
-    took-past = moved .0
+    pub walk-on : {z : Outcome (Unit {0})} → tokensOn s at ≡ z → tokensOn s (t .end) ≡ z
+    unfolding onward
+    walk-on g = sym (tokens-onward s at ∙ ap (onward s) here) ∙ g
 
-    pub took-in : e ≤ length s
-    took-in = moved .1
+  -- the end of the source, or a refusal
+  pub walk-stop : {z : Outcome (Unit {0})} {r : Lexed} → 10 ≤ t .sort → tokensOn s at ≡ z → r ≡ stop t → meantLexed r ≡ z
+  unfolding stop meantLexed onward if_then_else_
+  walk-stop {z} {r} h g f = ap meantLexed f ∙ go (eqb (t .sort) 10) refl ∙ g
+    where
+      go : (b : Bool) → eqb (t .sort) 10 ≡ b → meantLexed (if b then Clean else Fault (t .value) (t .start) (t .end)) ≡ tokensOn s at
+      go true e =
+          let q : t .sort ≡ 10 = eqb-true _ _ e in
+          let k : nextToken s at ≡ ok (tokenIn (mark 0) (span (t .start) (t .end))) = y .token (omega (arith, q)) ∙ rw q in
+          let l : length s ≤ t .end = ⊎-elim (λ p. p .1) (λ p. absurd (p .0 refl)) (subst (Moves s at) k (next-moves s at)) in
+          sym (tokens-onward s at ∙ ap (onward s) k ∙ tokens-end s (t .end) l)
+      go false e =
+          let n : t .sort ≡ 10 → ⊥ = eqb-false _ _ e in
+          let k : nextToken s at ≡ refuse (t .value) (span (t .start) (t .end)) = y .bad (omega (arith, n, h)) in
+          sym (tokens-onward s at ∙ ap (onward s) k)
 
-    tokens-on : tokensOn s at ≡ tokensOn s e
-    unfolding meant onward
-    tokens-on = tokens-onward s at ∙ ap (onward s) (sym m)
-
-    module _ {z : Outcome (Unit {0})} {p : List ℕ} {j : ℕ} (g : wholeOn s at ≡ z) (q : p ≡ take e s) (f : j ≡ runEnd class.Ascii p at) where
-      pub walk-high : j < e → meantLexed (Fault 12 j (j + 1)) ≡ z
-      unfolding wholeOn meantLexed
-      walk-high h = sym (rw (high-in s p e q took-in at f h)) ∙ g
-
-      pub walk-on : e ≤ j → wholeOn s e ≡ z
-      unfolding wholeOn
-      walk-on h = sym (rw (high-none s p e q took-in at f (omega (arith, took-past)) h, tokens-on)) ∙ g
-
-  -- the end of the source, and a refusal
-  pub walk-end : {z : Outcome (Unit {0})} {x : Next} {e : ℕ} {r : Outcome (Unit {0})} → x ≡ End e → meant s x ≡ nextToken s at → wholeOn s at ≡ z → r ≡ unlessHigh s at (meantLexed Clean) → r ≡ z
-  unfolding wholeOn unlessHigh meantLexed meant onward
-  walk-end {z} {x} {e} {r} v y g f =
-      let m : meant s (End e) ≡ nextToken s at = ap (meant s) (sym v) ∙ y in
-      let l : length s ≤ e = ⊎-elim (λ p. p .1) (λ p. absurd (p .0 refl)) (subst (Moves s at) (sym m) (next-moves s at)) in
-      let o : tokensOn s at ≡ ok tt = tokens-onward s at ∙ ap (onward s) (sym m) ∙ tokens-end s e l in
-      f ∙ rw (← o) g
-
-  pub walk-refused : {z : Outcome (Unit {0})} {x : Next} {n a e : ℕ} {r : Outcome (Unit {0})} → x ≡ Refused n a e → meant s x ≡ nextToken s at → wholeOn s at ≡ z → r ≡ unlessHigh s at (meantLexed (Fault n a e)) → r ≡ z
-  unfolding wholeOn unlessHigh meantLexed meant onward
-  walk-refused {z} {x} {n} {a} {e} {r} v y g f =
-      let m : meant s (Refused n a e) ≡ nextToken s at = ap (meant s) (sym v) ∙ y in
-      let o : tokensOn s at ≡ refuse n (span a e) = tokens-onward s at ∙ ap (onward s) (sym m) in
-      f ∙ rw (← o) g
-
+module _ (s : List ℕ) (at : ℕ) where
   -- what is left of the source
   module _ {j : ℕ} (h : at ≤ length s) (f : j ≡ runEnd class.Ascii s at) where
     pub rest-high : (o : Outcome (Unit {0})) → j < length s → meantLexed (Fault 12 j (j + 1)) ≡ unlessHigh s at o
@@ -139,6 +139,12 @@ module _ (s : List ℕ) (at : ℕ) where
     unfolding unlessHigh ascii
     rest-none o l = sym (rw (high-none s s (length s) (sym (take-length s)) (omega arith) at f h l, drop-of-length-le s (le-refl (length s))))
 
--- a part from the source's start
-pub part-start : (s : List ℕ) (e : ℕ) → take (e - 0) s ≡ take e s
-part-start s e = let n : e - 0 ≡ e = omega arith in ap (λ (n : ℕ). take n s) n
+-- the whole source: 12, then the tokens
+module _ (s : List ℕ) (l : length s ≤ 262144) {j : ℕ} (f : j ≡ runEnd class.Ascii s 0) where
+  pub whole-high : j < length s → meantLexed (Fault 12 j (j + 1)) ≡ verdict (lexed s)
+  unfolding wholeOn unlessHigh
+  whole-high h = rest-high s 0 (omega arith) f (tokensOn s 0) h ∙ whole-start s l
+
+  pub whole-low : {x : Outcome (Unit {0})} → length s ≤ j → x ≡ tokensOn s 0 → x ≡ verdict (lexed s)
+  unfolding wholeOn unlessHigh
+  whole-low h e = e ∙ rest-none s 0 (omega arith) f (tokensOn s 0) h ∙ whole-start s l

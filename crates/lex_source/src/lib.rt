@@ -1,12 +1,10 @@
 // The first refusal of a whole source by the lexer's rules: 11, 12, then 1 to 10 in source order.
 ghost use mathlib.Core.Path.{_≡_};
-ghost use Prim.Native.Nat.{_≤_};
-ghost use lib.ListN.{length};
 ghost use Rattle.rules.specs.Base.{verdict};
 ghost use Rattle.rules.specs.Tokens.{lexed};
-ghost use Rattle.lex_source.specs.Lexed.{meantLexed, unlessHigh};
-use base_text::Class;
-use lex_token::Next;
+ghost use Rattle.rules.proofs.Walk.{tokensOn};
+ghost use Rattle.lex_source.specs.Lexed.{meantLexed, stop};
+use lex_token::Lexeme;
 
 // Acceptance, or a refusal with its number and place.
 pub enum Lexed {
@@ -18,23 +16,35 @@ pub enum Lexed {
     },
 }
 
-// The answer, unless a byte above x7F stands at or after `at`.
-fn unless_high(src: &[u8], at: usize, answer: Lexed) -> Lexed
-    requires { ⌜ at ≤ length (now src) ⌝ }
-    ensures { λ r. ⌜ meantLexed r ≡ unlessHigh (now (src .entry)) at (meantLexed answer) ⌝ }
+// The end of the source, or a refusal.
+fn stopped(t: Lexeme) -> Lexed
+    ensures { λ r. ⌜ r ≡ stop t ⌝ }
 {
-    let high = base_text::run_end(src, at, Class::Ascii);
-    if high < src.len() {
-        return Lexed::Fault {
-            number: base_refusals::NON_ASCII,
-            start: high,
-            end: high + 1,
-        };
+    if t.sort == lex_token::END {
+        return Lexed::Clean;
     }
-    answer
+    Lexed::Fault {
+        number: t.value,
+        start: t.start,
+        end: t.end,
+    }
 }
 
-// One walk over the tokens. The bytes of each are looked at for one above x7F before the next is read; after a refusal those that are left are.
+// 1 to 10, the first in the source: one walk over its tokens.
+fn token_refusal(src: &[u8]) -> Lexed
+    ensures { λ r. ⌜ meantLexed r ≡ tokensOn (now (src .entry)) 0 ⌝ }
+{
+    let mut at: usize = 0;
+    loop {
+        let t = lex::next_lexeme(src, at);
+        if lex_token::END <= t.sort {
+            return stopped(t);
+        }
+        at = t.end;
+    }
+}
+
+// 11, then 12, for which all bytes are looked at once, then the tokens.
 pub fn first_refusal(src: &[u8]) -> Lexed
     ensures { λ r. ⌜ meantLexed r ≡ verdict (lexed (now (src .entry))) ⌝ }
 {
@@ -45,31 +55,13 @@ pub fn first_refusal(src: &[u8]) -> Lexed
             end: src.len(),
         };
     }
-    let mut at: usize = 0;
-    loop {
-        let next = lex::next_token(src, at);
-        match next {
-            Next::Took {
-                token: _,
-                start: _,
-                end,
-            } => {
-                let high = base_text::run_end(&src[0..end], at, Class::Ascii);
-                if high < end {
-                    return Lexed::Fault {
-                        number: base_refusals::NON_ASCII,
-                        start: high,
-                        end: high + 1,
-                    };
-                }
-                at = end;
-            }
-            Next::End(_) => {
-                return unless_high(src, at, Lexed::Clean);
-            }
-            Next::Refused { number, start, end } => {
-                return unless_high(src, at, Lexed::Fault { number, start, end });
-            }
-        }
+    let high = base_runs::ascii_end(src);
+    if high < src.len() {
+        return Lexed::Fault {
+            number: base_refusals::NON_ASCII,
+            start: high,
+            end: high + 1,
+        };
     }
+    token_refusal(src)
 }

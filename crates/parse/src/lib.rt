@@ -4,7 +4,6 @@ use base_refusals::BAD_STATEMENT;
 use base_refusals::NAME_TOO_LONG;
 use base_refusals::NON_ASCII;
 use base_refusals::SOURCE_TOO_LONG;
-use base_text::Class;
 use lex::next_lexeme;
 use lex_source::Lexed;
 use lex_token::Lexeme;
@@ -255,7 +254,7 @@ pub fn check_bytes(src: &[u8]) -> Statements
     requires { ⌜ (length (now src) ≤ 262144) × AllRead (now src) ⌝ }
     ensures { λ r. ⌜ r ≡ codedStatements (sourceStatements (now (src .entry))) ⌝ }
 {
-    let high = base_text::run_end(src, 0, Class::Ascii);
+    let high = base_runs::ascii_end(src);
     if high < src.len() {
         return Statements::Refused {
             number: NON_ASCII,
