@@ -1,11 +1,11 @@
 -- Bytes of a class, one on and many on, and what a run of them is. Assumes nothing.
 use Prim.Native.Nat.{ℕ, zero, suc, _+_, _-_, _≤_, _<_}
 use mathlib.Core.Path.{_≡_, refl, sym, _∙_, ap}
-use mathlib.Core.Bool.{Bool, true, false, _&&_}
+use mathlib.Core.Bool.{Bool, true, false, not, _&&_, _||_}
 use mathlib.Core.List.{List, [], _∷_}
 use native.Mathlib.Nat.{not-suc-le-zero, le-of-suc-le-suc}
 use native.Mathlib.Omega.{arith}
-use lib.Dec.{ltb}
+use lib.Dec.{ltb, eqb}
 use lib.ListN.{length, getD, take, drop, length-drop}
 use lib.Seq.{getD-drop, take-length}
 use Rattle.rules.proofs.Bools.{never}
@@ -55,9 +55,34 @@ pub ascii-next : (s : List ℕ) {i : ℕ} {a : Bool} → Looked Ascii s a i → 
 unfolding inClass
 ascii-next s l h = looked-next Ascii s l h refl
 
-pub plain-next : (s : List ℕ) {i : ℕ} {a t : Bool} → Looked Plain s a i → i < length s → t ≡ plain (getD s i 0) → Looked Plain s (a && t) (i + 1)
+-- four tests at once
+inter : (a b c d : Bool) → ((a && b) && (c && d)) ≡ ((a && c) && (b && d))
+inter false b c d = refl
+inter true true c d = refl
+inter true false true d = refl
+inter true false false d = refl
+
+four : (q b f r q′ b′ f′ r′ : Bool) → ((q && q′) && (b && b′) && (f && f′) && (r && r′)) ≡ ((q && b && f && r) && (q′ && b′ && f′ && r′))
+four q b f r q′ b′ f′ r′ =
+    ap (λ (x : Bool). (x && (f && f′)) && (r && r′)) (inter q q′ b b′)
+    ∙ ap (λ (x : Bool). x && (r && r′)) (inter (q && b) (q′ && b′) f f′)
+    ∙ inter (q && b && f) (q′ && b′ && f′) r r′
+
+plain-is : (c : ℕ) → (not (eqb c 34) && not (eqb c 92) && not (eqb c 10) && not (eqb c 13)) ≡ plain c
+unfolding plain
+plain-is c = go (eqb c 34) (eqb c 92) (eqb c 10) (eqb c 13)
+  where
+    go : (q b f r : Bool) → (not q && not b && not f && not r) ≡ not (q || b || f || r)
+    go true b f r = refl
+    go false true f r = refl
+    go false false true r = refl
+    go false false false r = refl
+
+pub plain-next :
+    (s : List ℕ) {i : ℕ} (q b f r : Bool) → Looked Plain s (q && b && f && r) i → i < length s
+    → Looked Plain s ((q && not (eqb (getD s i 0) 34)) && (b && not (eqb (getD s i 0) 92)) && (f && not (eqb (getD s i 0) 10)) && (r && not (eqb (getD s i 0) 13))) (i + 1)
 unfolding inClass
-plain-next s l h e = looked-next Plain s l h e
+plain-next s {i} q b f r l h = rw (four q b f r (not (eqb (getD s i 0) 34)) (not (eqb (getD s i 0) 92)) (not (eqb (getD s i 0) 10)) (not (eqb (getD s i 0) 13))) (looked-next Plain s l h (plain-is (getD s i 0)))
 
 -- A RUN, many bytes on
 

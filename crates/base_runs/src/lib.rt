@@ -4,22 +4,28 @@ ghost use Rattle.base_text.specs.Runs.{runEnd};
 ghost use Rattle.base_text.specs.declared.Class.the-variants.{Ascii, Plain};
 ghost use Rattle.base_runs.specs.Every.{every};
 use base_text::Class;
-use base_text::is_plain;
 
 // How many bytes are looked at in one step.
 const STEP: usize = 32;
 
-// Every byte stands for itself in a string.
+// Every byte stands for itself in a string. Each of the four that do not has an answer of its own, since the compiler makes no wide loop of a test with several ways.
 fn all_plain(s: &[u8]) -> bool
     ensures { λ r. ⌜ r ≡ every Plain (now (s .entry)) ⌝ }
 {
-    let mut all = true;
+    let mut no_quote = true;
+    let mut no_backslash = true;
+    let mut no_feed = true;
+    let mut no_return = true;
     let mut i = 0;
     while i < s.len() {
-        all = all & is_plain(s[i]);
+        let b = s[i];
+        no_quote = no_quote & (b != b'"');
+        no_backslash = no_backslash & (b != b'\\');
+        no_feed = no_feed & (b != b'\n');
+        no_return = no_return & (b != b'\r');
         i += 1;
     }
-    all
+    no_quote & no_backslash & no_feed & no_return
 }
 
 // Every byte is an ASCII character.
