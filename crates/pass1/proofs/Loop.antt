@@ -3,7 +3,7 @@ use mathlib.Core.Path.{_≡_, refl, sym, _∙_, ap}
 use mathlib.Core.Bool.{true, false}
 use mathlib.Core.List.{List, [], _∷_}
 use mathlib.Core.Option.{none, some}
-use Prim.Native.Nat.{ℕ, _-_, _≤_}
+use Prim.Native.Nat.{ℕ, _+_, _-_, _≤_}
 use native.Mathlib.Omega.{arith}
 use lib.ListN.{length}
 use Rattle.rules.specs.Base.{Outcome, ok, refused, refuse, _>>=_}
@@ -32,6 +32,7 @@ use Rattle.pass1_state.proofs.Counting.{went, stuck}
 use Rattle.pass1_fill.specs.Tables.{seen, Held, Stepping}
 use Rattle.pass1_directive.proofs.Directing.{over-none}
 use Rattle.pass1.specs.Steps.{Stands, PassedOne}
+use Rattle.pass1.proofs.Steps.{Counts, step-counts}
 
 -- THE RULE at the end
 pass-open : (c : Cursor) (x : Table Name Symbol) (y : Table ℕ Name) (b w : ℕ) → passOne [] (pass1State (some c) x y b w) ≡ refuse 22 (c .place)
@@ -179,3 +180,7 @@ module _ (rs₀ qs₀ rs qs src : List ℕ) (at : ℕ) (o : code.Pass1State) (g 
         kept = step .kept;
         read = λ o′ y. (let u : Went o′ ≡ Refused n c d e l = sym y ∙ z in never cc);
       }
+
+    -- one that only counts
+    pub going-counts : Counts st o → (b : code.Pass1State) → b ≡ counting.counting o (o .counter + 1) → Going rs₀ qs₀ rs qs src (st .next) b
+    going-counts w b e = going-on rs qs (Went b) (step-counts rs qs src o (g .held) st w b e at) b refl refl refl

@@ -1,25 +1,35 @@
 -- What each way through a step of pass one shows. Assumes nothing.
-use mathlib.Core.Path.{_≡_, sym, _∙_, ap}
-use mathlib.Core.Bool.{false}
+use mathlib.Core.Path.{_≡_, refl, sym, _∙_, ap}
+use mathlib.Core.Bool.{Bool, true, false, not, _&&_}
 use mathlib.Core.List.{List}
-use Prim.Native.Nat.{ℕ, _-_, _<_}
+use mathlib.Core.Option.{none}
+use Prim.Native.Nat.{ℕ, _+_, _-_, _<_}
+use native.Mathlib.Omega.{arith}
+use borrow.Author.Tests.{ltb-true, eqb-true}
+use lib.Dec.{ltb}
 use Rattle.rules.specs.Base.{Outcome, ok, refuse2, _>>=_, span}
+use Rattle.rules.specs.Words as words
 use Rattle.rules.specs.Statements.{Name, Stmt, labelsAt}
+use Rattle.rules.proofs.Bools.{never}
 use Rattle.rules.specs.Passes.{Pass1State, wordLen, labelled, directed, advanced, stepOne}
 use Rattle.pass1_symbols.specs.Symbols.{symbols}
 use Rattle.pass1_relocations.specs.Pending.{notes}
 use Rattle.parse.specs.declared.Statement.{Statement}
-use Rattle.parse_meaning.specs.Reading.{Faithful}
+use Rattle.parse_rows.specs.declared.Op.{Op}
+use Rattle.parse_rows.specs.declared.Op.the-variants.{Instr, Orig, Fill, Blkw, Stringz, External}
+use Rattle.parse_rows.specs.declared.Op.the-variants as op
+use Rattle.parse_meaning.specs.Reading.{meantOp, Faithful}
 use Rattle.pass1_state.specs.declared.Pass1State as code
 use Rattle.pass1_state.specs.declared.Pass1Step.{Pass1Step}
 use Rattle.pass1_state.specs.declared.Pass1Step.the-variants.{Went, Refused}
-use Rattle.pass1_state.specs.State.{viewPass1, told, Steady}
-use Rattle.pass1_state.specs.State as counting
+use Rattle.pass1_state.specs.State.{viewPass1, told, Steady, counting}
+use Rattle.pass1_state.specs.State as steps
+use Rattle.pass1_state.proofs.Counting.{step-on}
 use Rattle.pass1_labels.specs.Tables as naming
 use Rattle.pass1_fill.specs.Tables.{seen, Held, Stepping}
 use Rattle.pass1_directive.specs.Sound.{Sound}
 use Rattle.pass1_directive.proofs.Directing.{sound, over-none, over-names}
-use Rattle.pass1.specs.Steps.{stepOn, Stands}
+use Rattle.pass1.specs.Steps.{oneWord, onlyCounts, stepOn, Stands}
 
 -- ONE STEP AFTER ANOTHER
 module _ (rs qs src rs′ qs′ : List ℕ) (o : code.Pass1State) (f : Pass1State → Outcome Pass1State) (a : Pass1Step) (k : Stepping rs qs src rs′ qs′ o f a) (g : Pass1State → Outcome Pass1State) where
@@ -57,7 +67,7 @@ module _ (rs qs src : List ℕ) (o : code.Pass1State) (st : Statement) (w : Stan
     on-steady = on-held .lent .steady
 
     pub on-went : (n : ℕ) → ((at : ℕ) (s : Stmt) → Faithful src at st s → n ≡ wordLen (s .op) s) → (r : Pass1Step)
-        → counting.Stepping b (λ x y. advanced n (span (st .start) (st .end)) (viewPass1 x y b)) r → (at : ℕ) (s : Stmt) → Faithful src at st s → Stepping rs qs src rs′ qs′ o (stepOn s) r
+        → steps.Stepping b (λ x y. advanced n (span (st .start) (st .end)) (viewPass1 x y b)) r → (at : ℕ) (s : Stmt) → Faithful src at st s → Stepping rs qs src rs′ qs′ o (stepOn s) r
     unfolding stepOn
     on-went n z r j at s f =
         let u = over-none rs′ qs′ src b on-held (λ v. advanced n (span (st .start) (st .end)) v) r j in
@@ -96,3 +106,74 @@ module _ (rs qs src : List ℕ) (o : code.Pass1State) (h : Held rs qs src o) (st
     pub step-went : (rs″ qs″ : List ℕ) (r : Pass1Step) → ((at : ℕ) (s : Stmt) → Faithful src at st s → Stepping rs′ qs src rs″ qs″ b (stepOn s) r) → (s : Stmt) → Faithful src at st s → Stepping rs qs src rs″ qs″ o (stepOne s) r
     unfolding stepOne stepOn
     step-went rs″ qs″ r j s f = then-went rs qs src rs′ qs o (λ v. labelled (s .labels) (s .place) v) a (labels-by s f) (stepOn s) b q rs″ qs″ r (j at s f)
+
+-- A STATEMENT THAT ONLY COUNTS
+
+and-first : (a b : Bool) → (a && b) ≡ true → a ≡ true
+and-first true b e = refl
+and-first false b e = never cc
+
+and-second : (a b : Bool) → (a && b) ≡ true → b ≡ true
+and-second true b e = e
+and-second false b e = never cc
+
+is-not : (b : Bool) → not b ≡ true → b ≡ false
+is-not true e = never cc
+is-not false e = refl
+
+-- what the test says
+pub record Counts (st : Statement) (o : code.Pass1State) : Type 0 where
+  pub one : oneWord (st .op) (st .reach) ≡ true
+  pub bare : st .labelled ≡ false
+  pub inside : o .inside ≡ true
+  pub room : o .counter < 65024
+
+pub counts : (st : Statement) (o : code.Pass1State) {t : Bool} → t ≡ onlyCounts st o → t ≡ true → Counts st o
+unfolding onlyCounts
+counts st o q y =
+    let e = sym q ∙ y in
+    let a = and-first (oneWord (st .op) (st .reach) && not (st .labelled) && o .inside) (ltb (o .counter) 65024) e in
+    let b = and-first (oneWord (st .op) (st .reach) && not (st .labelled)) (o .inside) a in
+    record {
+      one = and-first (oneWord (st .op) (st .reach)) (not (st .labelled)) b;
+      bare = is-not (st .labelled) (and-second (oneWord (st .op) (st .reach)) (not (st .labelled)) b);
+      inside = and-second (oneWord (st .op) (st .reach) && not (st .labelled)) (o .inside) a;
+      room = ltb-true _ _ (and-second (oneWord (st .op) (st .reach) && not (st .labelled) && o .inside) (ltb (o .counter) 65024) e);
+    }
+
+-- it directs nothing and takes a word
+directs-none : (s : Stmt) (p : Op) (reach : ℕ) → oneWord p reach ≡ true → (reach ≡ 0 → s .target ≡ none) → (v : Pass1State) → directed (meantOp p) s v ≡ ok v
+unfolding directed
+directs-none s Instr reach e b v = refl
+directs-none s Fill reach e b v = rw (b (eqb-true _ _ e))
+directs-none s Blkw reach e b v = refl
+directs-none s Stringz reach e b v = refl
+directs-none s Orig reach e b v = never cc
+directs-none s op.End reach e b v = never cc
+directs-none s External reach e b v = never cc
+
+takes-one : (s : Stmt) (p : Op) (reach : ℕ) → oneWord p reach ≡ true → wordLen (meantOp p) s ≡ 1
+unfolding wordLen
+takes-one s Instr reach e = refl
+takes-one s Fill reach e = refl
+takes-one s Blkw reach e = never cc
+takes-one s Stringz reach e = never cc
+takes-one s Orig reach e = never cc
+takes-one s op.End reach e = never cc
+takes-one s External reach e = never cc
+
+module _ (rs qs src : List ℕ) (o : code.Pass1State) (h : Held rs qs src o) (st : Statement) (w : Counts st o) (o′ : code.Pass1State) (q : o′ ≡ counting o (o .counter + 1)) where
+  advances : Stepping rs qs src rs qs o (λ v. advanced 1 (span (st .start) (st .end)) v) (Went o′)
+  advances = over-none rs qs src o h (λ v. advanced 1 (span (st .start) (st .end)) v) (Went o′) (step-on o (h .lent .steady) 1 (st .start) (st .end) (w .inside) (λ z. omega arith) o′ (o .counter + 1) q refl (omega (arith, w .room)))
+
+  counts-on : (at : ℕ) (s : Stmt) → Faithful src at st s → Stepping rs qs src rs qs o (stepOn s) (Went o′)
+  unfolding stepOn
+  counts-on at s f =
+      let v = seen rs qs src o in
+      let d : directed (s .op) s v ≡ ok v = ap (λ (p : words.Op). directed p s v) (f .op) ∙ directs-none s (st .op) (st .reach) (w .one) (f .bare) v in
+      let n : wordLen (s .op) s ≡ 1 = ap (λ (p : words.Op). wordLen p s) (f .op) ∙ takes-one s (st .op) (st .reach) (w .one) in
+      let e : (directed (s .op) s v >>= λ b. advanced (wordLen (s .op) s) (s .place) b) ≡ advanced 1 (span (st .start) (st .end)) v = rw (d, n, f .place) in
+      record { rule = advances .rule ∙ sym e; kept = advances .kept }
+
+  pub step-counts : (at : ℕ) (s : Stmt) → Faithful src at st s → Stepping rs qs src rs qs o (stepOne s) (Went o′)
+  step-counts = step-bare rs qs src o st rs qs (Went o′) (w .bare) counts-on

@@ -1,11 +1,16 @@
 -- Pass one at a statement, as the rules' `stepOne` has it, and over a whole source. Assumes nothing.
 use mathlib.Core.Path.{_≡_}
+use mathlib.Core.Bool.{Bool, true, false, not, _&&_}
 use mathlib.Core.List.{List}
 use Prim.Native.Nat.{ℕ}
+use lib.Dec.{eqb, ltb}
 use Rattle.rules.specs.Base.{Outcome, ok, _>>=_}
 use Rattle.rules.specs.Statements.{Stmt, statements}
 use Rattle.rules.specs.Passes.{Pass1State, pass1Start, wordLen, directed, advanced, passOne}
 use Rattle.parse.specs.declared.Statement.{Statement}
+use Rattle.parse_rows.specs.declared.Op.{Op}
+use Rattle.parse_rows.specs.declared.Op.the-variants.{Instr, Orig, Fill, Blkw, Stringz, External}
+use Rattle.parse_rows.specs.declared.Op.the-variants as op
 use Rattle.parse.specs.Coded.{AllRead}
 use Rattle.parse_meaning.specs.Reading.{Faithful}
 use Rattle.pass1_symbols.specs.Symbols.{symbols}
@@ -15,6 +20,20 @@ use Rattle.pass1_state.specs.declared.Pass1Step.{Pass1Step}
 use Rattle.pass1_state.specs.declared.Pass1Step.the-variants.{Went}
 use Rattle.pass1_state.specs.State.{told}
 use Rattle.pass1_fill.specs.Tables.{Held}
+
+-- an instruction, or a .fill of a number: its label operand's field has no values
+abbrev pub oneWord : Op → ℕ → Bool
+oneWord Instr reach = true
+oneWord Fill reach = eqb reach 0
+oneWord Blkw reach = false
+oneWord Stringz reach = false
+oneWord Orig reach = false
+oneWord op.End reach = false
+oneWord External reach = false
+
+-- of such a statement without labels, in a block with room for it, only the counter goes on
+unfoldable pub onlyCounts : Statement → code.Pass1State → Bool
+onlyCounts st o = oneWord (st .op) (st .reach) && not (st .labelled) && o .inside && ltb (o .counter) 0xfe00
 
 -- a statement after its labels: what it directs, then advance
 unfoldable pub stepOn : Stmt → Pass1State → Outcome Pass1State

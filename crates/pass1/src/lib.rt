@@ -1,8 +1,10 @@
 // Pass one over all statements of a source.
 use parse::NextStatement;
 use parse::Statement;
+use parse_rows::Op;
 use pass1_state::Pass1State;
 use pass1_state::Pass1Step;
+ghost use mathlib.Core.Path.{_≡_};
 ghost use mathlib.Core.List.{[]};
 ghost use Prim.Native.Nat.{ℕ, _≤_};
 ghost use lib.ListN.{length};
@@ -12,7 +14,7 @@ ghost use Rattle.pass1_state.specs.State.{viewPass1, Steady};
 ghost use Rattle.pass1_state.specs.State as Counting;
 ghost use Rattle.parse_meaning.specs.Reading.{Faithful};
 ghost use Rattle.pass1_fill.specs.Tables.{Held, Stepping};
-ghost use Rattle.pass1.specs.Steps.{stepOn, Stands, PassedOne};
+ghost use Rattle.pass1.specs.Steps.{oneWord, onlyCounts, stepOn, Stands, PassedOne};
 
 // A statement after its labels: what it directs, then the counter's advance.
 fn step_on(
@@ -66,6 +68,31 @@ fn step_labelled(
     }
 }
 
+// An instruction, or a .fill of a number.
+fn is_one_word(st: Statement) -> bool
+    ensures { λ r. ⌜ r ≡ oneWord (st .op) (st .reach) ⌝ }
+{
+    let op = st.op;
+    match op {
+        Op::Instr => true,
+        Op::Fill => st.reach == 0,
+        Op::Blkw => false,
+        Op::Stringz => false,
+        Op::Orig => false,
+        Op::End => false,
+        Op::External => false,
+    }
+}
+
+// Of a statement of one word without labels, in a block with room for it, only the counter goes on.
+fn only_counts(st: Statement, o: Pass1State) -> bool
+    ensures { λ r. ⌜ r ≡ onlyCounts st o ⌝ }
+{
+    let one = is_one_word(st);
+    let labelled = st.labelled;
+    one & !labelled & o.inside & (o.counter < base_capacities::IO_START)
+}
+
 // A statement that was looked for at a place. Where it has no labels, none is looked for.
 fn step(
     src: &[u8],
@@ -105,6 +132,11 @@ pub fn pass_one(src: &[u8], labels: &mut [u32], relocations: &mut [u32]) -> Pass
     loop {
         match parse::next_statement(src, at) {
             NextStatement::Read(st) => {
+                if only_counts(st, o) {
+                    o = pass1_state::counted(o, o.counter + 1);
+                    at = st.next;
+                    continue;
+                }
                 let answer = step(src, labels, relocations, at, st, o);
                 match answer {
                     Pass1Step::Went(next) => {

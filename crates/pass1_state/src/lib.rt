@@ -99,7 +99,7 @@ pub fn with_relocations(o: Pass1State, relocations: usize) -> Pass1State
 }
 
 // The state with another counter.
-fn counted(o: Pass1State, counter: u32) -> Pass1State
+pub fn counted(o: Pass1State, counter: u32) -> Pass1State
     ensures { λ r. ⌜ r ≡ counting o counter ⌝ }
 {
     Pass1State {
