@@ -236,26 +236,34 @@ fn large() -> String {
     format!("{externals}.orig x1000\n{fills}{}.end\n", ".fill 7\n".repeat(29_100))
 }
 
+/// 20,000 words that are set and unset by turns: a stored field for each.
+fn alternating() -> String {
+    format!(".orig x1000\n{}.end\n", ".fill 7\n.blkw 1\n".repeat(10_000))
+}
+
 /// Storing, checking and loading beside copying the same bytes: megabytes a second, and how many times as long it takes.
 fn bench_stored() {
     println!("{:<22} {:>8} {:<34} {:>10} {:>10} {:>6}", "input", "bytes", "what", "copy MB/s", "here MB/s", "times");
     let mut six = Six::new();
-    let answer = six.assemble(large().as_bytes(), Sizes::FULL);
-    let kept = six.kept([5, 6, 7, 8].map(|i| answer[i] as usize));
-    let bytes = lc3::assemble(large().as_bytes()).unwrap().to_bytes();
-    let (mut stored, mut copied) = (vec![0; bytes.len()], vec![0; bytes.len()]);
-    let words = kept.counts[1];
-    let sizes = Sizes { words, marks: words, ..Sizes::FULL };
-    let copy = |to: &mut Vec<u8>| black_box(to).copy_from_slice(black_box(&bytes));
-    show_speed(bytes.len(), "store", best(|| copy(&mut copied), || sink(lc3::raw::store(kept.lent(), &mut stored))));
-    show_speed(bytes.len(), "check", best(|| copy(&mut copied), || sink(lc3::raw::check(&bytes))));
-    show_speed(bytes.len(), "load", best(|| copy(&mut copied), || sink(six.load_clean(&bytes, sizes))));
-    assert_eq!(stored, bytes);
-    let listing = lc3::assemble(large().as_bytes()).unwrap().list().into_bytes();
-    let (mut text, mut copied) = (vec![0; listing.len()], vec![0; listing.len()]);
-    let copy = |to: &mut Vec<u8>| black_box(to).copy_from_slice(black_box(&listing));
-    show_speed(listing.len(), "list", best(|| copy(&mut copied), || sink(lc3::raw::list(kept.lent(), &mut text))));
-    assert_eq!(text, listing);
+    for (name, source) in [("30,000 words", large()), ("short runs", alternating())] {
+        let answer = six.assemble(source.as_bytes(), Sizes::FULL);
+        let kept = six.kept([5, 6, 7, 8].map(|i| answer[i] as usize));
+        let object = lc3::assemble(source.as_bytes()).unwrap();
+        let bytes = object.to_bytes();
+        let (mut stored, mut copied) = (vec![0; bytes.len()], vec![0; bytes.len()]);
+        let words = kept.counts[1];
+        let sizes = Sizes { words, marks: words, ..Sizes::FULL };
+        let copy = |to: &mut Vec<u8>| black_box(to).copy_from_slice(black_box(&bytes));
+        show_speed(name, bytes.len(), "store", best(|| copy(&mut copied), || sink(lc3::raw::store(kept.lent(), &mut stored))));
+        show_speed(name, bytes.len(), "check", best(|| copy(&mut copied), || sink(lc3::raw::check(&bytes))));
+        show_speed(name, bytes.len(), "load", best(|| copy(&mut copied), || sink(six.load_clean(&bytes, sizes))));
+        assert_eq!(stored, bytes);
+        let listing = object.list().into_bytes();
+        let (mut text, mut copied) = (vec![0; listing.len()], vec![0; listing.len()]);
+        let copy = |to: &mut Vec<u8>| black_box(to).copy_from_slice(black_box(&listing));
+        show_speed(name, listing.len(), "list", best(|| copy(&mut copied), || sink(lc3::raw::list(kept.lent(), &mut text))));
+        assert_eq!(text, listing);
+    }
 }
 
 /// What no assembler could do without: the source copied once, and buffers of full size cleared for each file.
@@ -271,10 +279,10 @@ fn show_floor(name: &str, files: &[Vec<u8>]) {
     println!("{name:<22} {bytes:>8} {:<34} {:>10} {:>10.3}", "floor: the buffers cleared", "", b);
 }
 
-fn show_speed(bytes: usize, what: &str, (copy, here): (Duration, Duration)) {
+fn show_speed(name: &str, bytes: usize, what: &str, (copy, here): (Duration, Duration)) {
     let speed = |time: Duration| bytes as f64 / time.as_secs_f64() / 1e6;
     let times = here.as_secs_f64() / copy.as_secs_f64();
-    println!("{:<22} {bytes:>8} {what:<34} {:>10.0} {:>10.0} {times:>6.2}", "30,000 words", speed(copy), speed(here));
+    println!("{name:<22} {bytes:>8} {what:<34} {:>10.0} {:>10.0} {times:>6.2}", speed(copy), speed(here));
 }
 
 fn show(name: &str, bytes: usize, what: &str, (there, here): (Duration, Duration)) {

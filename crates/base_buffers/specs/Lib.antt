@@ -1,2 +1,3 @@
 -- What the contracts of `base_buffers` cite beside the rules. Assumes nothing.
 pub mod Rows
+pub mod Eights

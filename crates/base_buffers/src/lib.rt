@@ -5,6 +5,7 @@ ghost use lib.ListN.{length};
 ghost use lib.Seq.{paste};
 ghost use Rattle.rules.specs.Buffers.{zeros, lay};
 ghost use Rattle.base_buffers.specs.Rows.{withRow};
+ghost use Rattle.base_buffers.specs.Eights.{withEight, PutRest};
 
 // Every byte is zero afterwards.
 pub fn zero_u8(b: &mut [u8])
@@ -47,6 +48,64 @@ pub fn put_u8(dst: &mut [u8], at: usize, src: &[u8])
         dst[at + i] = src[i];
         i += 1;
     }
+}
+
+// How many bytes are copied in one step.
+const STEP: usize = 8;
+
+// The eight bytes from index i of src, to where they go if all of src goes to index `at`. They are read before they are written, so that they are copied at once.
+fn put_eight(dst: &mut [u8], at: usize, src: &[u8], i: usize)
+    requires { ⌜ (at + length (now src) ≤ length (now dst)) × (i + 8 ≤ length (now src)) ⌝ }
+    ensures { λ _. ⌜ now (dst .exit) ≡ withEight (now (dst .entry)) at (now (src .entry)) i ⌝ }
+{
+    let second = i + 1;
+    let third = i + 2;
+    let fourth = i + 3;
+    let fifth = i + 4;
+    let sixth = i + 5;
+    let seventh = i + 6;
+    let eighth = i + 7;
+    let a = src[i];
+    let b = src[second];
+    let c = src[third];
+    let d = src[fourth];
+    let e = src[fifth];
+    let f = src[sixth];
+    let g = src[seventh];
+    let h = src[eighth];
+    dst[at + i] = a;
+    dst[at + second] = b;
+    dst[at + third] = c;
+    dst[at + fourth] = d;
+    dst[at + fifth] = e;
+    dst[at + sixth] = f;
+    dst[at + seventh] = g;
+    dst[at + eighth] = h;
+}
+
+// The rest of src from index i on, of which all that is before went there already.
+fn put_rest(dst: &mut [u8], at: usize, src: &[u8], i: usize)
+    requires { ⌜ (at + length (now src) ≤ length (now dst)) × (i ≤ length (now src)) ⌝ }
+    ensures { λ _. ⌜ PutRest (now (dst .entry)) (now (dst .exit)) at (now (src .entry)) i ⌝ }
+{
+    let mut k = i;
+    while k < src.len() {
+        dst[at + k] = src[k];
+        k += 1;
+    }
+}
+
+// The same as put_u8, for what is short, as names are.
+pub fn put_name(dst: &mut [u8], at: usize, src: &[u8])
+    requires { ⌜ at + length (now src) ≤ length (now dst) ⌝ }
+    ensures { λ _. ⌜ now (dst .exit) ≡ paste (now (dst .entry)) at (now (src .entry)) (length (now (src .entry))) ⌝ }
+{
+    let mut i = 0;
+    while STEP <= src.len() - i {
+        put_eight(dst, at, src, i);
+        i += STEP;
+    }
+    put_rest(dst, at, src, i);
 }
 
 pub fn put_u16(dst: &mut [u16], at: usize, src: &[u16])

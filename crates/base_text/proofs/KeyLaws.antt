@@ -80,13 +80,13 @@ module _ (a b : List ℕ) (va : (k : ℕ) → getD a k 0 < 256) (vb : (k : ℕ) 
     same = λ u. order-go (λ x. x) a b i h k refl refl (omega arith) (omega arith);
   }
 
-  two-ranks : (i : ℕ) → i + 2 ≤ length a → i + 2 ≤ length b → Ranks (twoAt a i) (twoAt b i) (orderAt a b i) (orderAt a b (i + 2))
+  pub two-ranks : (i : ℕ) → i + 2 ≤ length a → i + 2 ≤ length b → Ranks (twoAt a i) (twoAt b i) (orderAt a b i) (orderAt a b (i + 2))
   unfolding twoAt
   two-ranks i h k =
       let z : i + 1 + 1 ≡ i + 2 = omega arith in
       joined (λ p q l. omega arith) (byte-ranks i (omega arith) (omega arith)) (rw z at (byte-ranks (i + 1) (omega arith) (omega arith))) (va (i + 1)) (vb (i + 1))
 
-  four-ranks : (i : ℕ) → i + 4 ≤ length a → i + 4 ≤ length b → Ranks (fourAt a i) (fourAt b i) (orderAt a b i) (orderAt a b (i + 4))
+  pub four-ranks : (i : ℕ) → i + 4 ≤ length a → i + 4 ≤ length b → Ranks (fourAt a i) (fourAt b i) (orderAt a b i) (orderAt a b (i + 4))
   unfolding fourAt
   four-ranks i h k =
       let z : i + 2 + 2 ≡ i + 4 = omega arith in
@@ -97,6 +97,27 @@ module _ (a b : List ℕ) (va : (k : ℕ) → getD a k 0 < 256) (vb : (k : ℕ) 
   key-ranks i h k =
       let z : i + 4 + 4 ≡ i + 8 = omega arith in
       joined (λ p q l. omega arith) (four-ranks i (omega arith) (omega arith)) (rw z at (four-ranks (i + 4) (omega arith) (omega arith))) (four-low a va (i + 4)) (four-low b vb (i + 4))
+
+-- WHAT IS LEFT OF TWO NAMES, n bytes on
+rest : (a b : List ℕ) (i : ℕ) → ordered (from a i) (from b i) ≡ orderAt a b i
+rest a b i = sym (simp map-same)
+
+module _ (a b : List ℕ) (at n : ℕ) {x y : ℕ} (f : Ranks x y (orderAt a b at) (orderAt a b (at + n))) where
+  pub rest-less : x < y → Less ≡ ordered (from a at) (from b at)
+  rest-less u = sym (rest a b at ∙ f .less u)
+
+  pub rest-more : y < x → Greater ≡ ordered (from a at) (from b at)
+  rest-more u = sym (rest a b at ∙ f .more u)
+
+  pub rest-next : y ≤ x → x ≤ y → {o : Order} → o ≡ ordered (from a (at + n)) (from b (at + n)) → o ≡ ordered (from a at) (from b at)
+  rest-next u v e = e ∙ (rest a b (at + n) ∙ sym (rest a b at ∙ f .same (omega arith)))
+
+module _ (a b : List ℕ) (va : (k : ℕ) → getD a k 0 < 256) (vb : (k : ℕ) → getD b k 0 < 256) (at shared : ℕ) (la : shared ≤ length a) (lb : shared ≤ length b) {x y : ℕ} where
+  pub two-left : 2 ≤ shared - at → x ≡ twoAt a at → y ≡ twoAt b at → Ranks x y (orderAt a b at) (orderAt a b (at + 2))
+  two-left l p q = rw (p, q) (two-ranks a b va vb at (omega arith) (omega arith))
+
+  pub four-left : 4 ≤ shared - at → x ≡ fourAt a at → y ≡ fourAt b at → Ranks x y (orderAt a b at) (orderAt a b (at + 4))
+  four-left l p q = rw (p, q) (four-ranks a b va vb at (omega arith) (omega arith))
 
 -- TWO NAMES, one key on: up to i they are the same
 

@@ -209,8 +209,12 @@ const FOUR_BYTES: u64 = 0x1_0000_0000;
 // How many values a byte has.
 const BYTE: u64 = 0x100;
 
-// How many bytes a key has.
-const KEY_BYTES: usize = 8;
+// How many bytes a key has, and a half and a quarter of one.
+pub const KEY_BYTES: usize = 8;
+
+const HALF_BYTES: usize = 4;
+
+const QUARTER_BYTES: usize = 2;
 
 // Two bytes as one number, the first the higher.
 fn two_at(s: &[u8], at: usize) -> u64
@@ -232,7 +236,7 @@ fn four_at(s: &[u8], at: usize) -> u64
 }
 
 // The key of eight bytes: keys are in the order of the bytes.
-fn key_at(s: &[u8], at: usize) -> u64
+pub fn key_at(s: &[u8], at: usize) -> u64
     requires { ⌜ at + 8 ≤ length (now s) ⌝ }
     ensures { λ r. ⌜ r ≡ keyAt (now (s .entry)) at ⌝ }
 {
@@ -275,7 +279,45 @@ fn compare_from(a: &[u8], b: &[u8], at: usize) -> Order
     }
 }
 
-// Two names as they stand, bytewise; a name goes before a longer one that it begins. For tables whose names are in upper case already, as those of objects are. Eight bytes are one key.
+// What is left of two names from a place on: two bytes at once, if both have them.
+fn compare_quarter(a: &[u8], b: &[u8], shared: usize, at: usize) -> Order
+    requires { ⌜ (at ≤ shared) × (shared ≤ length (now a)) × (shared ≤ length (now b)) ⌝ }
+    ensures { λ r. ⌜ r ≡ ordered (from (now (a .entry)) at) (from (now (b .entry)) at) ⌝ }
+{
+    if shared - at < QUARTER_BYTES {
+        return compare_from(a, b, at);
+    }
+    let x = two_at(a, at);
+    let y = two_at(b, at);
+    if x < y {
+        return Order::Less;
+    }
+    if y < x {
+        return Order::Greater;
+    }
+    compare_from(a, b, at + QUARTER_BYTES)
+}
+
+// The same: four bytes at once, if both have them.
+fn compare_half(a: &[u8], b: &[u8], shared: usize, at: usize) -> Order
+    requires { ⌜ (at ≤ shared) × (shared ≤ length (now a)) × (shared ≤ length (now b)) ⌝ }
+    ensures { λ r. ⌜ r ≡ ordered (from (now (a .entry)) at) (from (now (b .entry)) at) ⌝ }
+{
+    if shared - at < HALF_BYTES {
+        return compare_quarter(a, b, shared, at);
+    }
+    let x = four_at(a, at);
+    let y = four_at(b, at);
+    if x < y {
+        return Order::Less;
+    }
+    if y < x {
+        return Order::Greater;
+    }
+    compare_quarter(a, b, shared, at + HALF_BYTES)
+}
+
+// Two names as they stand, bytewise; a name goes before a longer one that it begins. For tables whose names are in upper case already, as those of objects are. Eight bytes are one key; of what is left four and two are looked at at once.
 pub fn compare_bytes(a: &[u8], b: &[u8]) -> Order
     ensures { λ r. ⌜ r ≡ ordered (now (a .entry)) (now (b .entry)) ⌝ }
 {
@@ -292,5 +334,5 @@ pub fn compare_bytes(a: &[u8], b: &[u8]) -> Order
         }
         i += KEY_BYTES;
     }
-    compare_from(a, b, i)
+    compare_half(a, b, shared, i)
 }

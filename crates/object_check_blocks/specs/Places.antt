@@ -2,6 +2,7 @@
 use mathlib.Core.Path.{_≡_}
 use mathlib.Core.List.{List}
 use Prim.Native.Nat.{ℕ, _+_, _≤_, _<_}
+use lib.ListN.{getD}
 use Rattle.rules.specs.Objects.{word}
 use Rattle.rules.specs.Buffers.{tab, headRow, cellRow}
 use Rattle.rules.proofs.Chains.{Spot}
@@ -25,3 +26,11 @@ pub record ZeroCell (ws ms : List ℕ) (p : ℕ) : Type 0 where
 pub record Celled (w m : ℕ) : Type 0 where
   pub mark : m ≤ 1
   pub clear : m ≡ 0 → w ≡ 0
+
+-- what holds of each index from one up to another
+pub record Part (P : ℕ → Type 0) (at stop : ℕ) : Type 0 where
+  pub each : (j : ℕ) → at ≤ j → j < stop → P j
+
+-- word j is set
+pub record Marked (ms : List ℕ) (j : ℕ) : Type 0 where
+  pub mark : getD ms j 0 ≡ 1

@@ -1,9 +1,9 @@
 // What 43 demands of an object's blocks and words, and where the word of an address stands among them.
-ghost use Prim.Native.Nat.{_<_};
+ghost use Prim.Native.Nat.{_≤_, _<_};
 ghost use lib.ListN.{length};
-ghost use Rattle.rules.specs.Buffers.{BlocksOk, WordsOk, ZeroAt};
+ghost use Rattle.rules.specs.Buffers.{BlocksOk, WordRow, WordsOk, ZeroAt};
 ghost use Rattle.object.specs.Decides.{Decides};
-ghost use Rattle.object_check_blocks.specs.Places.{Placed, ZeroCell, Celled};
+ghost use Rattle.object_check_blocks.specs.Places.{Placed, ZeroCell, Celled, Part, Marked};
 use base_capacities::BLOCK_CELLS;
 use base_capacities::BLOCK_LENGTH;
 use base_capacities::BLOCKS;
@@ -63,7 +63,49 @@ fn check_cell(word: u16, mark: u8) -> bool
     (mark == SET) | ((mark == UNSET) & (word == 0))
 }
 
-// The first w marks are 0 or 1, and a word whose mark is 0 is 0. The loop has no exit, so that many words are looked at in one step.
+// How many words are looked at in one step.
+const STEP: usize = 256;
+
+// The marks from `at` up to `stop` are 1. The loop has no exit, so that many are looked at at once.
+fn all_set(marks: &[u8], at: usize, stop: usize) -> bool
+    requires { ⌜ (at ≤ stop) × (stop ≤ length (now marks)) ⌝ }
+    ensures { λ r. ⌜ Decides (Part (Marked (now (marks .entry))) at stop) r ⌝ }
+{
+    let mut set = true;
+    let mut i = at;
+    while i < stop {
+        set = set & (marks[i] == SET);
+        i += 1;
+    }
+    set
+}
+
+// The marks from `at` up to `stop` are 0 or 1, and a word whose mark is 0 is 0. This loop has no exit either.
+fn check_cells(words: &[u16], marks: &[u8], at: usize, stop: usize) -> bool
+    requires { ⌜ (at ≤ stop) × (stop ≤ length (now words)) × (stop ≤ length (now marks)) ⌝ }
+    ensures { λ r. ⌜ Decides (Part (WordRow (now (words .entry)) (now (marks .entry))) at stop) r ⌝ }
+{
+    let mut good = true;
+    let mut i = at;
+    while i < stop {
+        good = good & check_cell(words[i], marks[i]);
+        i += 1;
+    }
+    good
+}
+
+// The same. Where all are set, the words are not looked at.
+fn check_part(words: &[u16], marks: &[u8], at: usize, stop: usize) -> bool
+    requires { ⌜ (at ≤ stop) × (stop ≤ length (now words)) × (stop ≤ length (now marks)) ⌝ }
+    ensures { λ r. ⌜ Decides (Part (WordRow (now (words .entry)) (now (marks .entry))) at stop) r ⌝ }
+{
+    if all_set(marks, at, stop) {
+        return true;
+    }
+    check_cells(words, marks, at, stop)
+}
+
+// The first w marks are 0 or 1, and a word whose mark is 0 is 0.
 pub fn check_words(words: &[u16], marks: &[u8], w: usize) -> bool
     ensures { λ r. ⌜ Decides (WordsOk w (now (words .entry)) (now (marks .entry))) r ⌝ }
 {
@@ -73,13 +115,16 @@ pub fn check_words(words: &[u16], marks: &[u8], w: usize) -> bool
     if marks.len() < w {
         return false;
     }
-    let mut good = true;
     let mut i = 0;
-    while i < w {
-        good = good & check_cell(words[i], marks[i]);
-        i += 1;
+    while STEP <= w - i {
+        let stop = i + STEP;
+        if check_part(words, marks, i, stop) {
+            i = stop;
+        } else {
+            return false;
+        }
     }
-    good
+    check_part(words, marks, i, w)
 }
 
 // The place, among the words of all blocks, of the word at address x.

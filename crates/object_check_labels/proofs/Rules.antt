@@ -5,18 +5,21 @@ use mathlib.Core.List.{List}
 use Prim.Native.Nat.{ℕ, suc, _+_, _-_, _*_, _≤_, _<_}
 use native.Mathlib.Nat.{not-suc-le-zero}
 use native.Mathlib.Omega.{arith}
-use lib.ListN.{length, getD}
+use lib.ListN.{length, getD, take, drop}
 use borrow.Author.Count.{below-more}
 use Rattle.rules.specs.Tables.{Before, before-irr, before-trans}
 use Rattle.rules.specs.Objects.{goodName}
 use Rattle.rules.specs.Buffers.{nameRow, LabelRow, LabelsOk}
 use Rattle.rules.proofs.Bools.{never}
 use Rattle.base_text.specs.Names.{ordered}
+use Rattle.base_text.specs.Keys.{keyAt}
+use Rattle.base_text.proofs.KeyLaws.{alike-none, alike-less}
+use Rattle.object_names.specs.Plain.{CapitalFront}
 use Rattle.base_text.specs.declared.Order.{Order}
 use Rattle.base_text.specs.declared.Order.the-variants.{Less, Same, Greater}
 use Rattle.object.specs.Decides.{Decides, decides-yes, decides-no}
 use Rattle.object.proofs.Order.{is-less, is-same, is-greater}
-use Rattle.object_check_labels.specs.Follows.{Flagged, Follows}
+use Rattle.object_check_labels.specs.Follows.{Flagged, RowsTo, Follows}
 
 -- FLAGS
 module _ {a f : ℕ} where
@@ -36,6 +39,11 @@ module _ {a f : ℕ} where
   flag-not m l n = decides-no (λ v. n (v .outside (omega arith)))
 
 -- A ROW
+
+-- the name, as a part of the name bytes
+pub row-named : (ls ns : List ℕ) (k : ℕ) {s l : ℕ} → s ≡ getD ls (k * 4 + 2) 0 → l ≡ getD ls (k * 4 + 3) 0 → take (s + l - s) (drop s ns) ≡ nameRow ls ns k
+row-named ls ns k {s} {l} p q = let e : s + l - s ≡ l = omega arith in rw (e, p, q) refl
+
 module _ {ls ns : List ℕ} {k : ℕ} where
   pub row-flag : {r : Bool} → Decides (Flagged (getD ls (k * 4) 0) (getD ls (k * 4 + 1) 0)) r → r ≡ false → Decides (LabelRow ls ns k) false
   row-flag d e = decides-no (λ v. d .no e (record { address = v .address; flag = v .flag; outside = v .outside }))
@@ -43,41 +51,48 @@ module _ {ls ns : List ℕ} {k : ℕ} where
   pub row-past : {s l : ℕ} → s ≡ getD ls (k * 4 + 2) 0 → l ≡ getD ls (k * 4 + 3) 0 → length ns < s + l → Decides (LabelRow ls ns k) false
   row-past p q h = decides-no (λ v. omega (arith, v .place))
 
-  pub row-name : {r t : Bool} {s l : ℕ} {m : List ℕ} → Decides (Flagged (getD ls (k * 4) 0) (getD ls (k * 4 + 1) 0)) r → r ≡ true
-      → s ≡ getD ls (k * 4 + 2) 0 → l ≡ getD ls (k * 4 + 3) 0 → s + l ≤ length ns → m ≡ nameRow ls ns k → t ≡ goodName m → Decides (LabelRow ls ns k) t
-  row-name d e p q b n t = record {
-    yes = λ x. (let g = d .yes e in record {
-      address = g .address;
-      flag = g .flag;
-      outside = g .outside;
-      place = omega arith;
-      name = ap goodName (sym n) ∙ (sym t ∙ x);
-    });
-    no = λ x v. (let z : true ≡ false = sym (v .name) ∙ (ap goodName (sym n) ∙ (sym t ∙ x)) in never cc);
-  }
+  pub row-name : {r t : Bool} {s l : ℕ} → Decides (Flagged (getD ls (k * 4) 0) (getD ls (k * 4 + 1) 0)) r → r ≡ true
+      → s ≡ getD ls (k * 4 + 2) 0 → l ≡ getD ls (k * 4 + 3) 0 → s + l ≤ length ns → t ≡ goodName (take (s + l - s) (drop s ns)) → Decides (LabelRow ls ns k) t
+  row-name d e p q b t =
+      let n = row-named ls ns k p q in
+      record {
+        yes = λ x. (let g = d .yes e in record {
+          address = g .address;
+          flag = g .flag;
+          outside = g .outside;
+          place = omega arith;
+          name = ap goodName (sym n) ∙ (sym t ∙ x);
+        });
+        no = λ x v. (let z : true ≡ false = sym (v .name) ∙ (ap goodName (sym n) ∙ (sym t ∙ x)) in never cc);
+      }
+
+  pub row-front : {r t : Bool} {s l n : ℕ} → CapitalFront ns n → Decides (Flagged (getD ls (k * 4) 0) (getD ls (k * 4 + 1) 0)) r → r ≡ true
+      → s ≡ getD ls (k * 4 + 2) 0 → l ≡ getD ls (k * 4 + 3) 0 → s + l ≤ n → t ≡ goodName (take (s + l - s) (drop s ns)) → Decides (LabelRow ls ns k) t
+  row-front f d e p q h t = row-name d e p q (omega (arith, f .within)) t
 
 -- THE ROW BEFORE
 pub follows-none : {ls ns : List ℕ} {k : ℕ} → k ≡ 0 → Decides (Follows ls ns k) true
 follows-none e = decides-yes (record { up = λ j q. absurd (omega arith) })
 
-module _ {ls ns x y : List ℕ} {k : ℕ} {r : Order} (n : k ≡ 0 → ⊥) (p : x ≡ nameRow ls ns (k - 1)) (q : y ≡ nameRow ls ns k) (e : r ≡ ordered x y) where
-  pub follows-less : r ≡ Less → Decides (Follows ls ns k) true
-  follows-less l =
-      let b : Before (nameRow ls ns (k - 1)) (nameRow ls ns k) = is-less (nameRow ls ns (k - 1)) (nameRow ls ns k) (e ∙ (λ i. ordered (p i) (q i))) l in
-      decides-yes (record { up = λ j h. (let w : j ≡ k - 1 = omega arith in rw w b) })
+-- A NAME BEFORE ANOTHER
+module _ (x y : List ℕ) {r : Order} (e : r ≡ ordered x y) where
+  pub before-less : r ≡ Less → Decides (Before x y) true
+  before-less l = decides-yes (is-less x y e l)
 
-  before : Follows ls ns k → Before (nameRow ls ns (k - 1)) (nameRow ls ns k)
-  before v = v .up (k - 1) (omega arith)
+  pub before-same : r ≡ Same → Decides (Before x y) false
+  before-same l = decides-no (λ v. before-irr y (rw (is-same x y e l) at v))
 
-  pub follows-same : r ≡ Same → Decides (Follows ls ns k) false
-  follows-same l =
-      let b : nameRow ls ns (k - 1) ≡ nameRow ls ns k = is-same (nameRow ls ns (k - 1)) (nameRow ls ns k) (e ∙ (λ i. ordered (p i) (q i))) l in
-      decides-no (λ v. before-irr (nameRow ls ns k) (rw b at (before v)))
+  pub before-more : r ≡ Greater → Decides (Before x y) false
+  before-more l = decides-no (λ v. before-irr y (before-trans y x y (is-greater x y e l) v))
 
-  pub follows-more : r ≡ Greater → Decides (Follows ls ns k) false
-  follows-more l =
-      let b : Before (nameRow ls ns k) (nameRow ls ns (k - 1)) = is-greater (nameRow ls ns (k - 1)) (nameRow ls ns k) (e ∙ (λ i. ordered (p i) (q i))) l in
-      decides-no (λ v. before-irr (nameRow ls ns k) (before-trans (nameRow ls ns k) (nameRow ls ns (k - 1)) (nameRow ls ns k) b (before v)))
+pub before-key : (x y : List ℕ) → ((k : ℕ) → getD x k 0 < 256) → ((k : ℕ) → getD y k 0 < 256) → 8 ≤ length x → 8 ≤ length y → {p q : ℕ} → p ≡ keyAt x 0 → q ≡ keyAt y 0 → p < q → Decides (Before x y) true
+before-key x y vx vy lx ly {p} {q} e f l = decides-yes (is-less x y (alike-less (alike-none x y 8) vx vy lx ly (omega arith) e f l) refl)
+
+pub follows-row : {ls ns x y : List ℕ} {k : ℕ} {r : Bool} → (k ≡ 0 → ⊥) → x ≡ nameRow ls ns (k - 1) → y ≡ nameRow ls ns k → Decides (Before x y) r → Decides (Follows ls ns k) r
+follows-row {ls} {ns} {x} {y} {k} n p q d = record {
+  yes = λ t. record { up = λ j h. (let w : j ≡ k - 1 = omega arith in rw (w, ← p, ← q) (d .yes t)) };
+  no = λ t v. d .no t (rw (p, q) (v .up (k - 1) (omega arith)));
+}
 
 -- ALL ROWS
 pub record LabelsTo (n : ℕ) (ls ns : List ℕ) (k : ℕ) : Type 0 where
@@ -102,6 +117,9 @@ module _ {n k : ℕ} {ls ns : List ℕ} (t : LabelsTo n ls ns k) (h : k < n) whe
 
   pub labels-down : {r : Bool} → Decides (Follows ls ns k) r → r ≡ false → Decides (LabelsOk n ls ns) false
   labels-down d e = decides-no (λ v. d .no e (record { up = λ j q. (let w : suc j < n = omega arith in rw (← q) (v .up .next j w)) }))
+
+  pub labels-rows : {r : Bool} → Decides (LabelRow ls ns k) r → r ≡ true → RowsTo ls ns (k + 1)
+  labels-rows d e = record { rows = below-more _ _ (t .rows) (d .yes e) }
 
   pub labels-more : {r s : Bool} → Decides (LabelRow ls ns k) r → r ≡ true → Decides (Follows ls ns k) s → s ≡ true → LabelsTo n ls ns (k + 1)
   labels-more d e f g = record { within = omega arith; few = t .few; room = t .room; rows = below-more _ _ (t .rows) (d .yes e); ups = below-more _ _ (t .ups) (f .yes g) }

@@ -1,9 +1,12 @@
 // What 43 demands of an object's labels.
+ghost use mathlib.Core.Path.{_≡_};
 ghost use Prim.Native.Nat.{_+_, _*_, _≤_, _<_};
 ghost use lib.ListN.{length};
-ghost use Rattle.rules.specs.Buffers.{LabelRow, LabelsOk};
+ghost use Rattle.rules.specs.Tables.{Before};
+ghost use Rattle.rules.specs.Buffers.{nameRow, LabelRow, LabelsOk};
 ghost use Rattle.object.specs.Decides.{Decides};
-ghost use Rattle.object_check_labels.specs.Follows.{Flagged, Follows};
+ghost use Rattle.object_check_labels.specs.Follows.{Flagged, RowsTo, Follows};
+ghost use Rattle.object_names.specs.Plain.{CapitalFront};
 use base_capacities::ADDRESSES;
 use base_capacities::DEFINED;
 use base_capacities::EXTERNAL;
@@ -13,7 +16,9 @@ use base_capacities::LABELS;
 use base_capacities::NAME_LENGTH;
 use base_capacities::NAME_START;
 use base_casts::wide;
+use base_text::KEY_BYTES;
 use base_text::Order;
+use base_text::key_at;
 
 // The last address that there is.
 const LAST_ADDRESS: u32 = ADDRESSES - 1;
@@ -37,39 +42,79 @@ fn check_flag(address: u32, flag: u32) -> bool
     false
 }
 
-// The rules of one row.
-fn check_label(labels: &[u32], names: &[u8], k: usize) -> bool
-    requires { ⌜ k * 4 + 4 ≤ length (now labels) ⌝ }
+// The rules of one row. The first `front` name bytes are capital letters, digits and underscores, and are not looked at again.
+fn check_label(labels: &[u32], names: &[u8], k: usize, front: usize) -> bool
+    requires { ⌜ (k * 4 + 4 ≤ length (now labels)) × CapitalFront (now names) front ⌝ }
     ensures { λ r. ⌜ Decides (LabelRow (now (labels .entry)) (now (names .entry)) k) r ⌝ }
 {
     let i = k * LABEL_CELLS;
     let flagged = check_flag(labels[i], labels[i + LABEL_FLAG]);
     if flagged {
         let start = wide(labels[i + NAME_START]);
-        let size = wide(labels[i + NAME_LENGTH]);
-        if names.len() < start + size {
+        let end = start + wide(labels[i + NAME_LENGTH]);
+        if end <= front {
+            return object_names::is_capital_label(&names[start..end]);
+        }
+        if names.len() < end {
             return false;
         }
-        return object_names::is_label(object::label_name(labels, names, k));
+        return object_names::is_label(&names[start..end]);
     }
     false
 }
 
-// The name of row k is above that of the row before.
+// The name of row k, which keeps the rules.
+fn name_of<'a>(labels: &[u32], names: &'a [u8], k: usize) -> &'a [u8]
+    requires { ⌜ (k * 4 + 4 ≤ length (now labels)) × LabelRow (now labels) (now names) k ⌝ }
+    ensures { λ r. ⌜ now r ≡ nameRow (now (labels .entry)) (now (names .entry)) k ⌝ }
+{
+    let i = k * LABEL_CELLS;
+    let start = wide(labels[i + NAME_START]);
+    let end = start + wide(labels[i + NAME_LENGTH]);
+    &names[start..end]
+}
+
+// A name goes before another.
+fn is_before(a: &[u8], b: &[u8]) -> bool
+    ensures { λ r. ⌜ Decides (Before (now (a .entry)) (now (b .entry))) r ⌝ }
+{
+    match base_text::compare_bytes(a, b) {
+        Order::Less => true,
+        Order::Same => false,
+        Order::Greater => false,
+    }
+}
+
+// The same, by the first eight bytes if they tell it.
+fn goes_before(a: &[u8], b: &[u8]) -> bool
+    ensures { λ r. ⌜ Decides (Before (now (a .entry)) (now (b .entry))) r ⌝ }
+{
+    if a.len() < KEY_BYTES {
+        return is_before(a, b);
+    }
+    if b.len() < KEY_BYTES {
+        return is_before(a, b);
+    }
+    let x = key_at(a, 0);
+    let y = key_at(b, 0);
+    if x < y {
+        return true;
+    }
+    is_before(a, b)
+}
+
+// The name of row k is above that of the row before, where both rows keep the rules.
 fn follows(labels: &[u32], names: &[u8], k: usize) -> bool
+    requires { ⌜ (k * 4 + 4 ≤ length (now labels)) × RowsTo (now labels) (now names) (k + 1) ⌝ }
     ensures { λ r. ⌜ Decides (Follows (now (labels .entry)) (now (names .entry)) k) r ⌝ }
 {
     if k == 0 {
         return true;
     }
     let j = k - 1;
-    let before = object::label_name(labels, names, j);
-    let name = object::label_name(labels, names, k);
-    match base_text::compare_bytes(before, name) {
-        Order::Less => true,
-        Order::Same => false,
-        Order::Greater => false,
-    }
+    let before = name_of(labels, names, j);
+    let name = name_of(labels, names, k);
+    goes_before(before, name)
 }
 
 // The n label rows rise by name, and each keeps the rules of a row.
@@ -82,9 +127,10 @@ pub fn check_labels(labels: &[u32], names: &[u8], n: usize) -> bool
     if labels.len() < n * LABEL_CELLS {
         return false;
     }
+    let front = object_names::capital_front(names);
     let mut k = 0;
     while k < n {
-        let row = check_label(labels, names, k);
+        let row = check_label(labels, names, k, front);
         if row {
             let up = follows(labels, names, k);
             if up {

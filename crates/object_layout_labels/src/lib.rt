@@ -56,7 +56,7 @@ pub fn put_label(
     ensures { λ r. ⌜ PutLabel (now (labels .entry)) (now (names .entry)) (now (labels .exit)) (now (names .exit)) k at address flag (now (name .entry)) r ⌝ }
 {
     put_row(labels, k, address, flag, at, name.len());
-    base_buffers::put_u8(names, at, name);
+    base_buffers::put_name(names, at, name);
     at + name.len()
 }
 

@@ -6,7 +6,7 @@ use Prim.Native.Nat.{ℕ, _+_, _-_, _≤_, _<_}
 use native.Mathlib.Omega.{arith}
 use lib.Dec.{leb}
 use lib.ListN.{length, getD, take, drop, length-drop, take-append-drop}
-use lib.Seq.{drop-drop, take-all}
+use lib.Seq.{drop-drop, take-all, take-add}
 use borrow.Author.Tests.{eqb-true, eq-eqb, ne-eqb, leb-true, le-leb, lt-leb}
 use Rattle.rules.specs.Base.{if_then_else_, is, within, same}
 use Rattle.rules.specs.Tokens.{token, digit, letter, wordy, upper, while, wordAt, tokenAt}
@@ -19,7 +19,7 @@ use Rattle.lex_reserved.specs.Ident.{identOf}
 use Rattle.lex_reserved.specs.declared.Ident.{Ident}
 use Rattle.lex_reserved.proofs.Rule.{ident-long}
 use Rattle.object_names.specs.Whole.{isLabel}
-use Rattle.object_names.specs.Plain.{capital, beginning, allCapital, plain}
+use Rattle.object_names.specs.Plain.{capital, beginning, allCapital, plain, CapitalFront}
 use Rattle.object_names.proofs.Judged.{no-right, word-free}
 
 -- THE LOOPS
@@ -79,6 +79,23 @@ module _ (s : List ℕ) {i : ℕ} (f : CapitalTo s i) where
   pub to-end : {x : Bool} → x ≡ allCapital (take (length s - i) (drop i s)) → x ≡ allCapital s
   unfolding from
   to-end p = p ∙ (ap allCapital (take-all (length s - i) (drop i s) (omega (arith, length-drop i s))) ∙ f .same)
+
+-- the front
+pub front-none : (s : List ℕ) → CapitalFront s 0
+front-none s = record { within = omega arith; front = refl }
+
+take-join : (s : List ℕ) (i e : ℕ) → i ≤ e → take e s ≡ take i s ++ take (e - i) (drop i s)
+take-join s i e l = let k : e ≡ i + (e - i) = omega arith in ap (λ (n : ℕ). take n s) k ∙ take-add i (e - i) s
+
+pub front-more : {s : List ℕ} {i e : ℕ} {x : Bool} → CapitalFront s i → x ≡ allCapital (take (e - i) (drop i s)) → x ≡ true → i ≤ e → e ≤ length s → CapitalFront s e
+front-more {s} {i} {e} f p q l h = record { within = h; front = ap allCapital (take-join s i e l) ∙ (all-append (take i s) (take (e - i) (drop i s)) ∙ rw (f .front, sym p ∙ q) refl) }
+
+-- a part of the front
+pub front-part : {s : List ℕ} {n start end : ℕ} → CapitalFront s n → start ≤ end → end ≤ n → allCapital (take (end - start) (drop start s)) ≡ true
+front-part {s} {n} {start} {end} f l h =
+    let a = ap allCapital (sym (take-join s end n h)) ∙ f .front in
+    let b = and-left (allCapital (take end s)) (allCapital (take (n - end) (drop end s))) (sym (all-append (take end s) (take (n - end) (drop end s))) ∙ a) in
+    and-right (allCapital (take start s)) (allCapital (take (end - start) (drop start s))) (sym (all-append (take start s) (take (end - start) (drop start s))) ∙ (ap allCapital (sym (take-join s start end l)) ∙ b))
 
 -- BYTES
 
@@ -206,3 +223,7 @@ plain-word (c ∷ s) h p e q f k m = m ∙ (ap isLabel k ∙ sym (rw (sym p ∙ 
 
 pub plain-long : (l : List ℕ) {x y : Bool} → (length l ≡ 0 → ⊥) → x ≡ beginning (getD l 0 0) → x ≡ true → y ≡ allCapital l → y ≡ true → 5 < length l → true ≡ plain l
 plain-long l h p e q f k = plain-word l h p e q f (ident-long l (omega arith) k) refl
+
+-- a long word of capital bytes
+pub capital-good : (l : List ℕ) {x : Bool} → allCapital l ≡ true → 5 < length l → length l ≤ 64 → x ≡ beginning (getD l 0 0) → x ≡ true → true ≡ goodName l
+capital-good l a k h p e = plain-told l h (plain-long l (λ z. omega (arith, z, k)) p e (sym a) refl k) refl

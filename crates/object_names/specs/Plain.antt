@@ -1,7 +1,9 @@
 -- Names that are labels by their bytes. Assumes nothing.
 use mathlib.Core.Bool.{Bool, true, false, _&&_, _||_, not}
 use mathlib.Core.List.{List, [], _∷_, map}
-use Prim.Native.Nat.{ℕ}
+use mathlib.Core.Path.{_≡_}
+use Prim.Native.Nat.{ℕ, _≤_}
+use lib.ListN.{length, take}
 use Rattle.rules.specs.Base.{is, within}
 use Rattle.rules.specs.Tokens.{digit, upper}
 use Rattle.lex_reserved.specs.Ident.{identOf}
@@ -23,3 +25,8 @@ allCapital (c ∷ s) = capital c && allCapital s
 abbrev pub plain : List ℕ → Bool
 plain [] = false
 plain (c ∷ s) = beginning c && (allCapital (c ∷ s) && isLabel (identOf (map upper (c ∷ s))))
+
+-- the first n bytes are capital
+pub record CapitalFront (s : List ℕ) (n : ℕ) : Type 0 where
+  pub within : n ≤ length s
+  pub front : allCapital (take n s) ≡ true

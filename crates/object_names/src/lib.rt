@@ -1,11 +1,12 @@
 // Names of labels: one label token in upper case, at most 64 bytes. Most names are told by their bytes; the lexer reads the others.
 ghost use mathlib.Core.Path.{_≡_};
+ghost use mathlib.Core.Bool.{true};
 ghost use mathlib.Core.List.{map};
 ghost use Rattle.rules.specs.Base.{same};
 ghost use Rattle.rules.specs.Tokens.{upper, nextToken};
 ghost use Rattle.rules.specs.Objects.{goodName};
 ghost use Rattle.lex_token.specs.Coded.{coded};
-ghost use Rattle.object_names.specs.Plain.{capital, beginning, allCapital, plain};
+ghost use Rattle.object_names.specs.Plain.{capital, beginning, allCapital, plain, CapitalFront};
 ghost use Rattle.object_names.specs.Whole.{isLabel, labelKind, wholeLabel};
 use lex_reserved::Ident;
 use lex_token::Next;
@@ -81,8 +82,10 @@ fn begins_word(b: u8) -> bool
     (((b'A' <= b) & (b <= b'Z')) | (b == b'_')) & !(b == b'R') & !(b == b'X')
 }
 
-// How many bytes are looked at in one step.
+// How many bytes of a name are looked at in one step, and how many of all names.
 const STEP: usize = 8;
+
+const STRIDE: usize = 64;
 
 // Every byte is a capital letter, a digit or the underscore. The loop has no exit, so that many are looked at at once.
 fn capital_part(part: &[u8]) -> bool
@@ -95,6 +98,22 @@ fn capital_part(part: &[u8]) -> bool
         i += 1;
     }
     good
+}
+
+// How many bytes at the front are all such, in steps of 64.
+pub fn capital_front(names: &[u8]) -> usize
+    ensures { λ r. ⌜ CapitalFront (now (names .entry)) r ⌝ }
+{
+    let mut i = 0;
+    while STRIDE <= names.len() - i {
+        let stop = i + STRIDE;
+        if capital_part(&names[i..stop]) {
+            i = stop;
+        } else {
+            return i;
+        }
+    }
+    i
 }
 
 // The same of a name, step by step.
@@ -143,4 +162,21 @@ pub fn is_label(name: &[u8]) -> bool
         return true;
     }
     whole_label(name) & is_upper(name)
+}
+
+// The same of bytes that are known to be capital letters, digits and underscores.
+pub fn is_capital_label(name: &[u8]) -> bool
+    requires { ⌜ allCapital (now name) ≡ true ⌝ }
+    ensures { λ r. ⌜ r ≡ goodName (now (name .entry)) ⌝ }
+{
+    if name.len() <= lex_reserved::LONGEST {
+        return is_label(name);
+    }
+    if name.len() <= base_capacities::NAME_BYTES {
+        if begins_word(name[0]) {
+            return true;
+        }
+        return is_label(name);
+    }
+    is_label(name)
 }

@@ -1,5 +1,4 @@
 // Fields of stored bytes: their tags and sizes by name, and heads, numbers, words and names written at a place.
-use list_lines::put_text;
 ghost use mathlib.Core.List.{_++_};
 ghost use Prim.Native.Nat.{_+_, _*_, _≤_};
 ghost use lib.ListN.{length};
@@ -79,6 +78,15 @@ pub fn put_words(out: &mut [u8], at: usize, words: &[u16]) -> usize
     end
 }
 
+// A name at a place; the place behind it.
+fn put_name(out: &mut [u8], at: usize, name: &[u8]) -> usize
+    requires { ⌜ at + length (now name) ≤ length (now out) ⌝ }
+    ensures { λ r. ⌜ Appended (now (out .entry)) (now (out .exit)) at r (now (name .entry)) ⌝ }
+{
+    base_buffers::put_name(out, at, name);
+    at + name.len()
+}
+
 // A field that holds a name.
 pub fn put_named(out: &mut [u8], at: usize, tag: u8, name: &[u8]) -> usize
     requires { ⌜ length (now name) ≤ 64 ⌝ }
@@ -87,7 +95,7 @@ pub fn put_named(out: &mut [u8], at: usize, tag: u8, name: &[u8]) -> usize
 {
     let size = name.len() as u16;
     let next = put_head(out, at, tag, size);
-    put_text(out, next, name)
+    put_name(out, next, name)
 }
 
 // A field that holds an address and a name.
@@ -99,7 +107,7 @@ pub fn put_addressed(out: &mut [u8], at: usize, tag: u8, address: u16, name: &[u
     let size = (NUMBER_BYTES + name.len()) as u16;
     let first = put_head(out, at, tag, size);
     let next = put_number(out, first, address);
-    put_text(out, next, name)
+    put_name(out, next, name)
 }
 
 // A block's field: its start and its word count.

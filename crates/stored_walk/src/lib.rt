@@ -29,16 +29,16 @@ use stored_read::Field;
 use stored_read::number_at;
 use stored_seek::Row;
 
-// What is known of the fields up to `at`. Blocks, the open one among them, where the last ends, the words that it is owed, and what run came last;
-// words, labels, name bytes and relocations read; the least address that the next relocation may have and the label row of the last;
-// and for the next one's word, from which field on it is to be looked for and at which address words begin there.
+// What is known of the fields up to `at`: what run came last; words read, and those that the open block is owed; blocks, the open one among them, and
+// where the last ends; labels, name bytes and relocations read; the least address that the next relocation may have and the label row of the last;
+// and for the next one's word, from which field on it is to be looked for and at which address words begin there. What a field changes stands together.
 pub struct Walk {
     pub at: usize,
-    pub blocks: usize,
-    pub words: usize,
-    pub floor: usize,
-    pub owed: usize,
     pub previous: u8,
+    pub words: usize,
+    pub owed: usize,
+    pub blocks: usize,
+    pub floor: usize,
     pub labels: usize,
     pub named: usize,
     pub relocations: usize,

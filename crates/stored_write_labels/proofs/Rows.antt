@@ -1,8 +1,9 @@
 -- The fields of label and relocation rows. Assumes nothing.
-use Prim.Native.Nat.{ℕ, zero, suc, _+_, _*_, _≤_, _<_}
+use Prim.Native.Nat.{ℕ, zero, suc, _+_, _-_, _*_, _≤_, _<_}
 use mathlib.Core.Path.{_≡_, refl, ap}
 use mathlib.Core.List.{List, [], _∷_, _++_, flatMap}
-use lib.ListN.{length, getD}
+use native.Mathlib.Omega.{arith}
+use lib.ListN.{length, getD, take, drop}
 use Rattle.rules.specs.Tables.{Table}
 use Rattle.rules.specs.Objects.{Name, Lab}
 use Rattle.rules.specs.Buffers.{tab, nameRow, labFrom, labelRow, relocRow, viewLabels, viewRelocs}
@@ -33,6 +34,10 @@ unfolding relocBytes viewRelocs
 reloc-rows n rs ls ns = relocs-flat (tab n (relocRow rs ls ns))
 
 -- A LABEL
+
+-- its name, as a part of the names
+pub name-part : (ls ns : List ℕ) (k : ℕ) {s l : ℕ} → s ≡ getD ls (k * 4 + 2) 0 → l ≡ getD ls (k * 4 + 3) 0 → take (s + l - s) (drop s ns) ≡ nameRow ls ns k
+name-part ls ns k {s} {l} p q = let e : s + l - s ≡ l = omega arith in rw (e, p, q) refl
 
 module _ (ls ns : List ℕ) (k : ℕ) where
   pub field-defined : getD ls (k * 4 + 1) 0 ≡ 0 → labelField (labelRow ls ns k) ≡ fieldBytes 4 (pair (getD ls (k * 4) 0) ++ nameRow ls ns k)

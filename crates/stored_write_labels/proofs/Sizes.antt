@@ -3,28 +3,53 @@ use Prim.Native.Nat.{ℕ, _+_, _*_, _≤_, _<_}
 use mathlib.Core.Path.{_≡_, refl, sym, _∙_, ap}
 use mathlib.Core.List.{List, _++_, flatMap}
 use native.Mathlib.Omega.{arith}
-use lib.ListN.{length, getD, length-append}
-use Rattle.rules.specs.Buffers.{tab, nameRow, labelRow, relocRow}
+use native.Mathlib.Decide.{ℕ-discrete}
+use lib.ListN.{length, getD, drop, length-append, length-take, length-drop}
+use borrow.Author.Tests.{eq-eqb, ne-eqb}
+use Rattle.rules.specs.Buffers.{tab, nameRow, labelRow, relocRow, LabelRow, LabelsOk}
 use Rattle.rules.specs.Stored.{pair}
 use Rattle.list_lines.proofs.Appending.{rows-more}
+use Rattle.list_sections.proofs.Sizes.{label-short}
 use Rattle.stored_fields.proofs.Fields.{length-field}
-use Rattle.stored_write_labels.specs.Tables.{labelField, relocField, FieldSized, FieldsSized}
+use Rattle.stored_write_labels.specs.Tables.{labelField, relocField, labelSize, FieldSized, FieldsSized}
 use Rattle.stored_write_labels.proofs.Rows.{field-defined, field-outer, field-reloc}
 
 -- ONE FIELD
 
-module _ (ls ns : List ℕ) (k : ℕ) (n : List ℕ) (q : n ≡ nameRow ls ns k) (s : length (nameRow ls ns k) ≤ 64) where
-  pub sized-defined : getD ls (k * 4 + 1) 0 ≡ 0 → FieldSized (3 + 2 + length n) (labelField (labelRow ls ns k))
-  sized-defined z =
-      let e = ap length (field-defined ls ns k z) ∙ length-field 4 (pair (getD ls (k * 4) 0) ++ nameRow ls ns k) in
-      let p : length n ≡ length (nameRow ls ns k) = ap length q in
-      record { size = omega (arith, e); small = omega arith }
+pub size-defined : {f n m : ℕ} → m ≡ n → f ≡ 0 → 3 + 2 + m ≡ labelSize f n
+unfolding labelSize
+size-defined {f} h e = rw (labelSize, eq-eqb f 0 e, h) refl
 
-  pub sized-outer : (getD ls (k * 4 + 1) 0 ≡ 0 → ⊥) → FieldSized (3 + length n) (labelField (labelRow ls ns k))
-  sized-outer z =
-      let e = ap length (field-outer ls ns k z) ∙ length-field 5 (nameRow ls ns k) in
-      let p : length n ≡ length (nameRow ls ns k) = ap length q in
-      record { size = omega (arith, e); small = omega arith }
+pub size-outer : {f n m : ℕ} → m ≡ n → (f ≡ 0 → ⊥) → 3 + m ≡ labelSize f n
+unfolding labelSize
+size-outer {f} h e = rw (labelSize, ne-eqb f 0 e, h) refl
+
+-- a name as long as its row says
+module _ (ls ns : List ℕ) (k : ℕ) (v : LabelRow ls ns k) where
+  pub name-length : length (nameRow ls ns k) ≡ getD ls (k * 4 + 3) 0
+  name-length = omega (arith, length-take (getD ls (k * 4 + 3) 0) (drop (getD ls (k * 4 + 2) 0) ns), length-drop (getD ls (k * 4 + 2) 0) ns, v .place)
+
+  pub sized-label : {r : ℕ} → length (nameRow ls ns k) ≤ 64 → r ≡ labelSize (getD ls (k * 4 + 1) 0) (getD ls (k * 4 + 3) 0) → FieldSized r (labelField (labelRow ls ns k))
+  sized-label {r} s h = go (ℕ-discrete (getD ls (k * 4 + 1) 0) 0)
+    where
+      go : Dec (getD ls (k * 4 + 1) 0 ≡ 0) → FieldSized r (labelField (labelRow ls ns k))
+      go (yes z) =
+          let e = ap length (field-defined ls ns k z) ∙ length-field 4 (pair (getD ls (k * 4) 0) ++ nameRow ls ns k) in
+          record { size = omega (arith, e, h, size-defined {n = getD ls (k * 4 + 3) 0} refl z, name-length); small = omega (arith, h, size-defined {n = getD ls (k * 4 + 3) 0} refl z, name-length, s) }
+      go (no z) =
+          let e = ap length (field-outer ls ns k z) ∙ length-field 5 (nameRow ls ns k) in
+          record { size = omega (arith, e, h, size-outer {n = getD ls (k * 4 + 3) 0} refl z, name-length); small = omega (arith, h, size-outer {n = getD ls (k * 4 + 3) 0} refl z, name-length, s) }
+
+-- of rows that are in order
+module _ {n : ℕ} {ls ns : List ℕ} (v : LabelsOk n ls ns) {k : ℕ} (l : k < n) where
+  pub cells-there : k * 4 + 4 ≤ length ls
+  cells-there = omega (arith, v .room)
+
+  pub name-low : getD ls (k * 4 + 3) 0 ≤ 64
+  name-low = omega (arith, name-length ls ns k (v .rows k l), label-short n ls ns v k l)
+
+  pub sized-row : {r : ℕ} → r ≡ labelSize (getD ls (k * 4 + 1) 0) (getD ls (k * 4 + 3) 0) → FieldSized r (labelField (labelRow ls ns k))
+  sized-row h = sized-label ls ns k (v .rows k l) (label-short n ls ns v k l) h
 
 pub sized-reloc : (rs ls ns : List ℕ) (k j : ℕ) (n : List ℕ) → j ≡ getD rs (k * 2 + 1) 0 → n ≡ nameRow ls ns j → length (nameRow ls ns (getD rs (k * 2 + 1) 0)) ≤ 64 → FieldSized (3 + 2 + length n) (relocField (relocRow rs ls ns k))
 sized-reloc rs ls ns k j n i q s =

@@ -2,6 +2,8 @@
 use base_capacities::DEFINED;
 use base_capacities::LABEL_CELLS;
 use base_capacities::LABEL_FLAG;
+use base_capacities::NAME_LENGTH;
+use base_capacities::NAME_START;
 use base_capacities::RELOCATION_CELLS;
 use base_capacities::RELOCATION_LABEL;
 use base_casts::wide;
@@ -11,23 +13,37 @@ use stored_fields::EXTERNAL_LABEL;
 use stored_fields::HEAD_BYTES;
 use stored_fields::NUMBER_BYTES;
 use stored_fields::RELOCATION;
+ghost use mathlib.Core.Path.{_≡_};
 ghost use Prim.Native.Nat.{_+_, _*_, _≤_, _<_};
 ghost use lib.ListN.{length, getD};
 ghost use Rattle.rules.specs.Buffers.{LabelsOk, nameRow, labelRow, relocRow};
 ghost use Rattle.list_lines.specs.Appended.{Appended};
 ghost use Rattle.list_sections.specs.Low.{RelocsLow, RelocsNamed};
-ghost use Rattle.stored_write_labels.specs.Tables.{labelField, relocField, labelBytes, relocBytes, FieldSized, FieldsSized};
+ghost use Rattle.stored_write_labels.specs.Tables.{labelField, relocField, labelBytes, relocBytes, labelSize, FieldSized, FieldsSized};
+
+// The name of label row k, which stands within the names.
+fn name_of<'a>(labels: &[u32], names: &'a [u8], k: usize) -> &'a [u8]
+    requires { ⌜ k * 4 + 4 ≤ length (now labels) ⌝ }
+    requires { ⌜ getD (now labels) (k * 4 + 2) 0 + getD (now labels) (k * 4 + 3) 0 ≤ length (now names) ⌝ }
+    ensures { λ r. ⌜ now r ≡ nameRow (now (labels .entry)) (now (names .entry)) k ⌝ }
+{
+    let i = k * LABEL_CELLS;
+    let start = wide(labels[i + NAME_START]);
+    let end = start + wide(labels[i + NAME_LENGTH]);
+    &names[start..end]
+}
 
 // The field of label row k.
 fn put_label(out: &mut [u8], at: usize, labels: &[u32], names: &[u8], k: usize) -> usize
     requires { ⌜ k * 4 + 4 ≤ length (now labels) ⌝ }
     requires { ⌜ getD (now labels) (k * 4) 0 < 65536 ⌝ }
+    requires { ⌜ getD (now labels) (k * 4 + 2) 0 + getD (now labels) (k * 4 + 3) 0 ≤ length (now names) ⌝ }
     requires { ⌜ length (nameRow (now labels) (now names) k) ≤ 64 ⌝ }
     requires { ⌜ at + length (labelField (labelRow (now labels) (now names) k)) ≤ length (now out) ⌝ }
     ensures { λ r. ⌜ Appended (now (out .entry)) (now (out .exit)) at r (labelField (labelRow (now (labels .entry)) (now (names .entry)) k)) ⌝ }
 {
     let i = k * LABEL_CELLS;
-    let name = object::label_name(labels, names, k);
+    let name = name_of(labels, names, k);
     if labels[i + LABEL_FLAG] == DEFINED {
         let address = word16(labels[i]);
         return stored_fields::put_addressed(out, at, DEFINED_LABEL, address, name);
@@ -95,21 +111,18 @@ pub fn put_relocations(
     end
 }
 
-// How many bytes the field of label row k has.
-fn label_size(labels: &[u32], names: &[u8], k: usize) -> usize
-    requires { ⌜ k * 4 + 4 ≤ length (now labels) ⌝ }
-    requires { ⌜ length (nameRow (now labels) (now names) k) ≤ 64 ⌝ }
-    ensures { λ r. ⌜ FieldSized r (labelField (labelRow (now (labels .entry)) (now (names .entry)) k)) ⌝ }
+// How many bytes the field of a label has, by its flag and the length of its name.
+fn label_size(flag: u32, name: u32) -> usize
+    requires { ⌜ name ≤ 64 ⌝ }
+    ensures { λ r. ⌜ r ≡ labelSize flag name ⌝ }
 {
-    let i = k * LABEL_CELLS;
-    let name = object::label_name(labels, names, k);
-    if labels[i + LABEL_FLAG] == DEFINED {
-        return HEAD_BYTES + NUMBER_BYTES + name.len();
+    if flag == DEFINED {
+        return HEAD_BYTES + NUMBER_BYTES + wide(name);
     }
-    HEAD_BYTES + name.len()
+    HEAD_BYTES + wide(name)
 }
 
-// How many bytes the fields of the first n labels have.
+// How many bytes the fields of the first n labels have. The names are not looked at, and the loop has no exit, so that many rows are added up at once.
 pub fn labels_size(labels: &[u32], names: &[u8], n: usize) -> usize
     requires { ⌜ LabelsOk n (now labels) (now names) ⌝ }
     ensures { λ r. ⌜ FieldsSized 1024 r (labelBytes n (now (labels .entry)) (now (names .entry))) ⌝ }
@@ -117,7 +130,8 @@ pub fn labels_size(labels: &[u32], names: &[u8], n: usize) -> usize
     let mut k = 0;
     let mut size = 0;
     while k < n {
-        size += label_size(labels, names, k);
+        let i = k * LABEL_CELLS;
+        size += label_size(labels[i + LABEL_FLAG], labels[i + NAME_LENGTH]);
         k += 1;
     }
     size

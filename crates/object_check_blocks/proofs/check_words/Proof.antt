@@ -1,15 +1,22 @@
 -- `object_check_blocks::check_words` meets its contract. Assumes nothing.
 use Prim.Native.Nat.{_-_}
-use Rattle.object_check_blocks.proofs.Words.{WordsTo, few-words, few-marks, words-none, words-more, words-all}
+use native.Mathlib.Omega.{arith}
+use Rattle.object_check_blocks.proofs.Words.{WordsTo, few-words, few-marks, words-none, words-more, words-wrong, words-all}
 use borrow.Author.Needs.{needs}
 use Rattle.object_check_blocks.proofs.check_words.Statement.{statement}
 use Rattle.object_check_blocks.proofs.check_words.Tie as tie
 
 abbrev Inv-loop : tie.InvT-loop
-Inv-loop words marks w good₀ i₀ good i = WordsTo words marks w good i
+Inv-loop words marks w i₀ i = WordsTo words marks w i
 
 abbrev μ-loop : tie.MeasureT-loop
-μ-loop words marks w good₀ i₀ good i = w - i
+μ-loop words marks w i₀ i = w - i
+
+loop-again : tie.Need-loop-again Inv-loop μ-loop
+loop-again c = words-more (c .before .before .before .loop .inv) (c .before .check-part .ensures) (omega arith) (c .if3 .taken)
+
+returns-3 : tie.Need-returns-3 Inv-loop μ-loop
+returns-3 c = words-wrong (c .before .before .before .loop .inv) (c .before .check-part .ensures) (omega arith) (c .if3 .left)
 
 pub check-words-spec : {M : Type 1} → statement M
 check-words-spec =
@@ -22,9 +29,9 @@ check-words-spec =
     (λ c. search (needs, words-none))
     (λ c. search needs)
     (λ c. search needs)
-    (λ c. search needs)
     (λ c κs. search needs)
     (λ c. search needs)
-    (λ c. search needs)
-    (λ c. search (needs, words-more))
+    loop-again
+    returns-3
+    (λ c κs. search needs)
     (λ c. search (needs, words-all)))

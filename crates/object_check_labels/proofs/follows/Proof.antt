@@ -1,8 +1,15 @@
 -- `object_check_labels::follows` meets its contract. Assumes nothing.
-use Rattle.object_check_labels.proofs.Rules.{follows-none, follows-less, follows-same, follows-more}
+use native.Mathlib.Omega.{arith}
+use Rattle.object_check_labels.proofs.Rules.{follows-none, follows-row}
 use borrow.Author.Needs.{needs}
 use Rattle.object_check_labels.proofs.follows.Statement.{statement}
 use Rattle.object_check_labels.proofs.follows.Tie as tie
+
+name-of-requires : tie.Need-name-of-requires
+name-of-requires c κs = (omega (arith, c .before .before .before .pre .0), c .before .before .before .pre .1 .rows _ (omega arith))
+
+name-of-requires-2 : tie.Need-name-of-requires-2
+name-of-requires-2 c κs = (c .before .before .before .before .pre .0, c .before .before .before .before .pre .1 .rows _ (omega arith))
 
 pub follows-spec : {M : Type 1} → statement M
 follows-spec =
@@ -10,12 +17,7 @@ follows-spec =
     (tie.spec
     (λ c. search (needs, follows-none))
     (λ c. search needs)
+    name-of-requires
+    name-of-requires-2
     (λ c κs. search needs)
-    (λ c κs. search needs)
-    (λ c κs. search needs)
-    (λ c. search needs)
-    (λ c. search needs)
-    (λ c. search needs)
-    (λ c. search (needs, follows-less))
-    (λ c. search (needs, follows-same))
-    (λ c. search (needs, follows-more)))
+    (λ c. search (needs, follows-row)))

@@ -10,8 +10,8 @@ put-head-requires c κs = search (needs, head-fits)
 put-number-requires : tie.Need-put-number-requires
 put-number-requires c κs = search (needs, address-fits)
 
-put-text-requires : tie.Need-put-text-requires
-put-text-requires c κs = search (needs, name-fits)
+put-name-requires : tie.Need-put-name-requires
+put-name-requires c κs = search (needs, name-fits)
 
 returns : tie.Need-returns
 returns c = search (needs, addressed)
@@ -24,6 +24,6 @@ put-addressed-spec =
     (λ c. search needs)
     put-head-requires
     put-number-requires
-    put-text-requires
+    put-name-requires
     (λ c. search needs)
     returns)

@@ -7,8 +7,8 @@ use Rattle.stored_fields.proofs.put_named.Tie as tie
 put-head-requires : tie.Need-put-head-requires
 put-head-requires c κs = search (needs, head-fits)
 
-put-text-requires : tie.Need-put-text-requires
-put-text-requires c κs = search (needs, rest-fits)
+put-name-requires : tie.Need-put-name-requires
+put-name-requires c κs = search (needs, rest-fits)
 
 returns : tie.Need-returns
 returns c = search (needs, named)
@@ -19,6 +19,6 @@ put-named-spec =
     (tie.spec
     (λ c. search needs)
     put-head-requires
-    put-text-requires
+    put-name-requires
     (λ c. search needs)
     returns)

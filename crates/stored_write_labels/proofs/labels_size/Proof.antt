@@ -1,11 +1,11 @@
 -- `stored_write_labels::labels_size` meets its contract. Assumes nothing.
 use borrow.Author.Needs.{needs}
 use Prim.Native.Nat.{_-_}
+use native.Mathlib.Omega.{arith}
 use Rattle.rules.specs.Buffers.{labelRow}
-use Rattle.list_sections.proofs.Sizes.{label-short}
 use Rattle.stored_write_labels.specs.Tables.{labelField}
 use Rattle.stored_write_labels.proofs.Rows.{label-rows}
-use Rattle.stored_write_labels.proofs.Sizes.{Added, added-none, added-more, added-all}
+use Rattle.stored_write_labels.proofs.Sizes.{Added, added-none, added-more, added-all, cells-there, name-low, sized-row}
 use Rattle.stored_write_labels.proofs.labels_size.Statement.{statement}
 use Rattle.stored_write_labels.proofs.labels_size.Tie as tie
 
@@ -15,17 +15,10 @@ Inv-loop labels names n k₀ size₀ k size = Added labelField (labelRow labels 
 abbrev μ-loop : tie.MeasureT-loop
 μ-loop labels names n k₀ size₀ k size = n - k
 
-loop-holds : tie.Need-loop-holds Inv-loop μ-loop
-loop-holds c = search (needs, added-none)
-
-label-size-requires : tie.Need-label-size-requires Inv-loop μ-loop
-label-size-requires c κs = let short = label-short _ _ _ (c .before .before .before .before .pre) _ (c .loop-test .taken) in search needs
-
-loop-again : tie.Need-loop-again Inv-loop μ-loop
-loop-again c = search (needs, added-more)
-
-returns : tie.Need-returns Inv-loop μ-loop
-returns c = search (needs, label-rows, added-all)
+add-size : tie.Need-add-size Inv-loop μ-loop
+add-size c =
+    let rows = c .before .before .before .before .before .before .before .pre in
+    omega (arith, rows .few, c .before .before .before .before .loop .inv .small, c .before .before .before .loop-test .taken, sized-row rows (c .before .before .before .loop-test .taken) (c .label-size .ensures) .small)
 
 pub labels-size-spec : {M : Type 1} → statement M
 labels-size-spec =
@@ -33,10 +26,17 @@ labels-size-spec =
     (tie.spec
     Inv-loop
     μ-loop
-    loop-holds
-    label-size-requires
+    (λ c. search (needs, added-none))
+    (λ c. search (needs, cells-there))
+    (λ c. search (needs, cells-there))
+    (λ c. search (needs, cells-there))
+    (λ c. search (needs, cells-there))
+    (λ c. search (needs, cells-there))
+    (λ c. search (needs, cells-there))
+    (λ c. search (needs, cells-there))
+    (λ c κs. search (needs, name-low))
+    add-size
     (λ c. search needs)
     (λ c. search needs)
-    (λ c. search needs)
-    loop-again
-    returns)
+    (λ c. search (needs, added-more, sized-row))
+    (λ c. search (needs, label-rows, added-all)))

@@ -21,6 +21,7 @@ loop-holds c = search (needs, label-rows, fields-none)
 put-label-requires : tie.Need-put-label-requires Inv-loop μ-loop
 put-label-requires c κs = let pre = c .before .before .before .before .before .before .pre in
     let low = label-low _ _ _ _ (pre .0) (c .before .loop-test .taken) in
+    let place = pre .0 .rows _ (c .before .loop-test .taken) .place in
     let short = label-short _ _ _ (pre .0) _ (c .before .loop-test .taken) in
     let room = field-fits labelField _ _ _ _ _ (label-rows _ _ _) _ _ _ (c .before .before .loop .inv) (pre .1) (c .before .loop-test .taken) in
     search needs

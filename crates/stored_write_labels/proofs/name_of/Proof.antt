@@ -1,0 +1,24 @@
+-- `stored_write_labels::name_of` meets its contract. Assumes nothing.
+use borrow.Author.Needs.{needs}
+use Rattle.stored_write_labels.proofs.Rows.{name-part}
+use Rattle.stored_write_labels.proofs.name_of.Statement.{statement}
+use Rattle.stored_write_labels.proofs.name_of.Tie as tie
+
+pub name-of-spec : {M : Type 1} → statement M
+name-of-spec =
+    tie.close
+    (tie.spec
+    (λ c. search needs)
+    (λ c. search needs)
+    (λ c. search needs)
+    (λ c. search needs)
+    (λ c κs. search needs)
+    (λ c. search needs)
+    (λ c. search needs)
+    (λ c. search needs)
+    (λ c κs. search needs)
+    (λ c. search needs)
+    (λ c. search needs)
+    (λ c. search needs)
+    (λ c. search needs)
+    (λ c. search (needs, name-part)))
