@@ -4,6 +4,7 @@ use crate::named::FILE_BYTES;
 use crate::named::Held;
 use crate::telling;
 use base_refusals::SOURCE_TOO_LONG;
+use lc3_assemble::Assembled;
 use lc3_input::Input;
 use lc3_input::front;
 use libc::STDOUT_FILENO;
@@ -11,6 +12,7 @@ use list_print::SOURCE_BYTES;
 use list_print::WORDS;
 use object::Counts;
 use object_answer::counts_of;
+use stored::STORED_BYTES;
 use view_object::PIECE_BYTES;
 
 // Piece p of what is shown of an object; whether it was written.
@@ -62,48 +64,7 @@ fn show_object(
     telling::ACCEPTED
 }
 
-// A source, with as many words as the listing program lends.
-fn show_source(path: &[u8], src: &[u8]) -> u8 {
-    let mut blocks = [0u16; object::BLOCK_ROOM];
-    let mut words = [0u16; WORDS];
-    let mut marks = [0u8; WORDS];
-    let mut labels = [0u32; object::LABEL_ROOM];
-    let mut relocations = [0u32; object::RELOCATION_ROOM];
-    let mut names = [0u8; object::NAME_ROOM];
-    let answer = asm::assemble(
-        src,
-        &mut blocks,
-        &mut words,
-        &mut marks,
-        &mut labels,
-        &mut relocations,
-        &mut names,
-    );
-    if answer.number == 0 {
-        return show_object(
-            counts_of(answer),
-            &blocks,
-            &words,
-            &marks,
-            &labels,
-            &relocations,
-            &names,
-        );
-    }
-    telling::tell_refusal(STDOUT_FILENO, path, src, answer)
-}
-
-// A file of source.
-pub fn explain_source(path: &[u8]) -> u8 {
-    let mut source = [0u8; SOURCE_BYTES];
-    match lc3_input::read_file(path, &mut source) {
-        Input::Whole(n) => show_source(path, front(&source, n)),
-        Input::Longer => telling::tell_placeless(STDOUT_FILENO, path, SOURCE_TOO_LONG),
-        Input::Failed => telling::tell_unread(path),
-    }
-}
-
-// A stored object, loaded into as many words.
+// A stored object, loaded into as many words as the listing program lends.
 fn show_stored(path: &[u8], bytes: &[u8]) -> u8 {
     let mut blocks = [0u16; object::BLOCK_ROOM];
     let mut words = [0u16; WORDS];
@@ -132,6 +93,27 @@ fn show_stored(path: &[u8], bytes: &[u8]) -> u8 {
         );
     }
     telling::tell_unloaded(STDOUT_FILENO, path, bytes, answer)
+}
+
+// A source, with as many words: its object as stored bytes, which are then shown.
+fn show_source(path: &[u8], src: &[u8]) -> u8 {
+    let mut words = [0u16; WORDS];
+    let mut marks = [0u8; WORDS];
+    let mut bytes = [0u8; STORED_BYTES];
+    match lc3_assemble::assemble_stored(src, &mut words, &mut marks, &mut bytes) {
+        Assembled::Bytes(n) => show_stored(path, front(&bytes, n)),
+        Assembled::Refused(answer) => telling::tell_refusal(STDOUT_FILENO, path, src, answer),
+    }
+}
+
+// A file of source.
+pub fn explain_source(path: &[u8]) -> u8 {
+    let mut source = [0u8; SOURCE_BYTES];
+    match lc3_input::read_file(path, &mut source) {
+        Input::Whole(n) => show_source(path, front(&source, n)),
+        Input::Longer => telling::tell_placeless(STDOUT_FILENO, path, SOURCE_TOO_LONG),
+        Input::Failed => telling::tell_unread(path),
+    }
 }
 
 // A file of a stored object.

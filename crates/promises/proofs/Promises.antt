@@ -106,6 +106,13 @@ use Rattle.stored_load.specs.Call.{Loaded}
 use Rattle.stored_load.proofs.Accepting as Loading
 use Rattle.stored_load.proofs.Back as LoadingBack
 use Rattle.asm.specs.Call.{called, Assembled}
+use Rattle.rules.specs.Capacities.{wordRoom}
+use Rattle.lc3_assemble.specs.Assembled as SourceStored
+use Rattle.lc3_assemble.specs.declared.Assembled.{Assembled as StoredSource}
+use Rattle.lc3_link.specs.Linked as StoredLink
+use Rattle.lc3_link.specs.Linked.{linkStored}
+use Rattle.lc3_link.specs.declared.Linked.{Linked as LinkAnswer}
+use Rattle.lc3_link.proofs.Either as StoredEither
 use Rattle.lc3_answers.specs.Told as Told
 use Rattle.lc3.specs.Calls as Calls
 use Rattle.lc3.specs.Calls.{checked, placeTold, RefusalCall, LinkCall, ListCall, LookupCall, RevLookupCall}
@@ -452,6 +459,34 @@ listing-program-one-answer src more len r s x y = Program.listed-once src len mo
 pub stored-listing-one-answer :
     (b : List ℕ) (len r s : ℕ) (x y : List ℕ) → Program.Wrote (storedListing b) len r x → Program.Wrote (storedListing b) len s y → (r ≡ s) × (x ≡ y)
 stored-listing-one-answer b len r s x y p q = (Program.one-count p q, Program.one-buffer p q)
+
+-- WHAT THE COMMANDS WRITE. `lc3_assemble::assemble_stored`: a source is assembled with the words that are lent, and its object stored in the lent bytes; or its refusal, with its places, or 51.
+-- Two answers that this allows are equal, and so are the words, the marks and the bytes.
+pub stored-source-one-answer :
+    (src words marks : List ℕ) (len : ℕ) (r s : StoredSource) (w v m n b d : List ℕ) → SourceStored.Told src words marks len r w m b → SourceStored.Told src words marks len s v n d → (r ≡ s) × (w ≡ v) × (m ≡ n) × (b ≡ d)
+stored-source-one-answer src words marks len r s w v m n b d p q =
+    (SourceStored.one-answer p q, p .left-words ∙ sym (q .left-words), p .left-marks ∙ sym (q .left-marks), SourceStored.one-bytes p q)
+
+-- `lc3_link::link_stored`: two byte strings are loaded, linked, and the result is stored in the lent bytes; or the first refusal, and of 25 the name. Two answers that this allows are equal,
+-- and so are the bytes and the buffer of the name.
+pub stored-link-one-answer :
+    (first second : List ℕ) (len : ℕ) (name : List ℕ) (r s : LinkAnswer) (b d n m : List ℕ) → StoredLink.Told (linkStored len first second) len name r b n
+    → StoredLink.Told (linkStored len first second) len name s d m → (r ≡ s) × (b ≡ d) × (n ≡ m)
+stored-link-one-answer first second len name r s b d n m p q = (StoredLink.one-answer p q, StoredLink.one-bytes p q, StoredLink.one-name p q)
+
+-- What it accepts are two stored objects, and the bytes are the stored form of their link.
+pub stored-link-accepts : (len : ℕ) (x y l : List ℕ) → linkStored len x y .outcome ≡ ok l → StoredLink.Accepted x y l
+stored-link-accepts = StoredEither.link-accepted
+
+-- The third demand of two: where both orders are accepted the bytes are the same, whatever is lent to either; and where the two have room together, both orders give the same bytes or both are refused.
+pub stored-links-agree :
+    (len n : ℕ) (x y l m : List ℕ) → AreBytes x → AreBytes y → linkStored len x y .outcome ≡ ok l → linkStored n y x .outcome ≡ ok m → l ≡ m
+stored-links-agree = StoredEither.either-accepted
+
+pub stored-link-in-either-order :
+    (len : ℕ) (x y : List ℕ) (a b : Object) → AreBytes x → AreBytes y → check x ≡ ok a → check y ≡ ok b → Room wordRoom (a ∷ b ∷ [])
+    → StoredLink.SameBytes (linkStored len x y .outcome) (linkStored len y x .outcome)
+stored-link-in-either-order = StoredEither.either-order
 
 -- THE CALLS FROM OTHER LANGUAGES, crate `lc3`. Two answers of nine numbers that a contract allows are equal: `lc3_next_token`; `lc3_first_refusal`; `lc3_disassemble`;
 -- `lc3_assemble`, and the six buffers too; `lc3_link`, and the six buffers too; `lc3_list` and `lc3_store`, and the buffer of bytes too; `lc3_check`; `lc3_load`, and the six buffers too; `lc3_lookup_label`; `lc3_rev_lookup_label`; `lc3_place`; `lc3_refusal`, and its text too.

@@ -1,2 +1,3 @@
 -- Laws that the proofs of `stored` cite. Assumes nothing.
 pub mod Storing
+pub mod Made

@@ -8,6 +8,7 @@ use base_refusals::BAD_OBJECT;
 use base_refusals::NO_WRITE_ROOM;
 use base_refusals::SHORT_BUFFER;
 use object::Counts;
+use object_answer::Answer;
 use object_answer::Written;
 use object_check::Checked;
 use stored_fields::BLOCK_BYTES;
@@ -18,7 +19,7 @@ ghost use lib.ListN.{length};
 ghost use Rattle.rules.specs.Buffers.{six, Valid, view, zeros};
 ghost use Rattle.rules.specs.Stored.{stored};
 ghost use Rattle.object.specs.Meaning.{counts};
-ghost use Rattle.stored.specs.Call.{WrittenOf, Called};
+ghost use Rattle.stored.specs.Call.{WrittenOf, Called, MadeStored};
 
 // The most bytes that a stored object takes: every word a run by itself, full tables, every name of 64 bytes. A relocation names an external, which has no address. Proved of the rule: `no-object-takes-more` on the page of promises.
 pub const STORED_BYTES: usize = BLOCKS * BLOCK_BYTES
@@ -99,4 +100,25 @@ pub fn store(
         Checked::ShortBuffer => Written::Refused(SHORT_BUFFER),
         Checked::BadObject => Written::Refused(BAD_OBJECT),
     }
+}
+
+// What a call has made in these buffers into lent bytes; where it has refused, its number, and the bytes are zero.
+pub fn store_made(
+    answer: Answer,
+    blocks: &[u16],
+    words: &[u16],
+    marks: &[u8],
+    labels: &[u32],
+    relocations: &[u32],
+    names: &[u8],
+    bytes: &mut [u8],
+) -> Written
+    ensures { λ r. ⌜ MadeStored answer (six (now (blocks .entry)) (now (words .entry)) (now (marks .entry)) (now (labels .entry)) (now (relocations .entry)) (now (names .entry))) (length (now (bytes .entry))) r (now (bytes .exit)) ⌝ }
+{
+    if answer.number == 0 {
+        let c = object_answer::counts_of(answer);
+        return store(c, blocks, words, marks, labels, relocations, names, bytes);
+    }
+    base_buffers::zero_u8(bytes);
+    Written::Refused(answer.number)
 }
