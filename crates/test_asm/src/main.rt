@@ -22,7 +22,7 @@ fn replay(data: &[u8], at: usize, src: &mut [u8], line: u64) -> usize {
     if right(src, source.value, lacking, answer, digits) {
         return listing.next;
     }
-    test_support::differs(line);
+    io::write_all(STDOUT_FILENO, &test_support::difference(line));
     listing.next
 }
 

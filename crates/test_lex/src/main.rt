@@ -269,7 +269,7 @@ fn replay(data: &[u8], at: usize, src: &mut [u8], number: u64) -> usize {
             return wrapping_add_usize(past_rows(answers, header.rows), 17);
         }
     }
-    test_support::differs(number);
+    io::write_all(STDOUT_FILENO, &test_support::difference(number));
     wrapping_add_usize(past_rows(answers, header.rows), 17)
 }
 

@@ -3,7 +3,11 @@
 use object::Counts;
 use object_answer::Answer;
 use object_answer::Written;
-ghost use Prim.Native.Nat.{_≤_};
+ghost use mathlib.Core.Path.{_≡_};
+ghost use Prim.Native.Nat.{_-_, _%_, _≤_};
+ghost use Rattle.rules.specs.Buffers.{six};
+ghost use Rattle.test_replay.specs.Asked.{lackingAt, expectedAt, sameAnswer};
+ghost use Rattle.test_replay.specs.Replayed.{heldTo, Listed, AsAsked, Replays, lentTo};
 
 // How many numbers each lent buffer lacks of its full size, and where the field after them begins.
 pub struct Lacking {
@@ -23,13 +27,15 @@ pub struct Expected {
 }
 
 // How much each buffer lacks, read from a place.
-pub fn lacking_at(data: &[u8], at: usize) -> Lacking {
-    let a = test_support::decimal(data, at);
-    let b = test_support::decimal(data, a.next);
-    let c = test_support::decimal(data, b.next);
-    let d = test_support::decimal(data, c.next);
-    let e = test_support::decimal(data, d.next);
-    let f = test_support::decimal(data, e.next);
+pub fn lacking_at(text: &[u8], at: usize) -> Lacking
+    ensures { λ r. ⌜ r ≡ lackingAt (now (text .entry)) at ⌝ }
+{
+    let a = test_support::decimal(text, at);
+    let b = test_support::decimal(text, a.next);
+    let c = test_support::decimal(text, b.next);
+    let d = test_support::decimal(text, c.next);
+    let e = test_support::decimal(text, d.next);
+    let f = test_support::decimal(text, e.next);
     Lacking {
         blocks: a.value,
         words: b.value,
@@ -42,21 +48,25 @@ pub fn lacking_at(data: &[u8], at: usize) -> Lacking {
 }
 
 // The low sixteen bits.
-fn low16(n: usize) -> u16 {
+fn low16(n: usize) -> u16
+    ensures { λ r. ⌜ r ≡ n % 65536 ⌝ }
+{
     (n % 65536) as u16
 }
 
 // The answer that is asked for, read from a place.
-pub fn expected_at(data: &[u8], at: usize) -> Expected {
-    let a = test_support::decimal(data, at);
-    let b = test_support::decimal(data, a.next);
-    let c = test_support::decimal(data, b.next);
-    let d = test_support::decimal(data, c.next);
-    let e = test_support::decimal(data, d.next);
-    let f = test_support::decimal(data, e.next);
-    let g = test_support::decimal(data, f.next);
-    let h = test_support::decimal(data, g.next);
-    let i = test_support::decimal(data, h.next);
+pub fn expected_at(text: &[u8], at: usize) -> Expected
+    ensures { λ r. ⌜ r ≡ expectedAt (now (text .entry)) at ⌝ }
+{
+    let a = test_support::decimal(text, at);
+    let b = test_support::decimal(text, a.next);
+    let c = test_support::decimal(text, b.next);
+    let d = test_support::decimal(text, c.next);
+    let e = test_support::decimal(text, d.next);
+    let f = test_support::decimal(text, e.next);
+    let g = test_support::decimal(text, f.next);
+    let h = test_support::decimal(text, g.next);
+    let i = test_support::decimal(text, h.next);
     let answer = Answer {
         number: low16(a.value),
         start: b.value,
@@ -76,7 +86,7 @@ pub fn expected_at(data: &[u8], at: usize) -> Expected {
 
 // What is left of a full size that lacks so many.
 pub fn left(full: usize, lacking: usize) -> usize
-    ensures { λ r. ⌜ r ≤ full ⌝ }
+    ensures { λ r. ⌜ (r ≡ full - lacking) × (r ≤ full) ⌝ }
 {
     if full < lacking {
         return 0;
@@ -84,7 +94,10 @@ pub fn left(full: usize, lacking: usize) -> usize
     full - lacking
 }
 
-pub fn same_answer(a: Answer, b: Answer) -> bool {
+// Whether two answers are the same, number by number.
+pub fn same_answer(a: Answer, b: Answer) -> bool
+    ensures { λ r. ⌜ r ≡ sameAnswer a b ⌝ }
+{
     (a.number == b.number)
         & (a.start == b.start)
         & (a.end == b.end)
@@ -97,7 +110,9 @@ pub fn same_answer(a: Answer, b: Answer) -> bool {
 }
 
 // Whether a listing of less than 400 bytes is that of the digits, and a longer one has none.
-fn same_listing(listed: Written, text: &[u8], digits: &[u8]) -> bool {
+fn same_listing(listed: Written, text: &[u8], digits: &[u8]) -> bool
+    ensures { λ r. ⌜ r ≡ heldTo listed (now (text .entry)) (now (digits .entry)) ⌝ }
+{
     match listed {
         Written::Bytes(n) => {
             if n <= text.len() {
@@ -119,7 +134,9 @@ fn listed_right(
     relocations: &[u32],
     names: &[u8],
     digits: &[u8],
-) -> bool {
+) -> bool
+    ensures { λ r. ⌜ Listed c (six (now (blocks .entry)) (now (words .entry)) (now (marks .entry)) (now (labels .entry)) (now (relocations .entry)) (now (names .entry))) (now (digits .entry)) r ⌝ }
+{
     let mut text = [0u8; 399];
     let listed = list::list(
         c,
@@ -145,7 +162,9 @@ pub fn as_asked(
     labels: &[u32],
     relocations: &[u32],
     names: &[u8],
-) -> bool {
+) -> bool
+    ensures { λ r. ⌜ AsAsked got asked (now (digits .entry)) (six (now (blocks .entry)) (now (words .entry)) (now (marks .entry)) (now (labels .entry)) (now (relocations .entry)) (now (names .entry))) r ⌝ }
+{
     if same_answer(got, asked) {
         if got.number == 0 {
             return listed_right(
@@ -175,7 +194,9 @@ fn answered(
     labels: &mut [u32],
     relocations: &mut [u32],
     names: &mut [u8],
-) -> bool {
+) -> bool
+    ensures { λ r. ⌜ Replays (six (now (blocks .entry)) (now (words .entry)) (now (marks .entry)) (now (labels .entry)) (now (relocations .entry)) (now (names .entry))) (now (src .entry)) asked (now (digits .entry)) r ⌝ }
+{
     let got = asm::assemble(src, blocks, words, marks, labels, relocations, names);
     as_asked(
         got,
@@ -191,7 +212,9 @@ fn answered(
 }
 
 // Whether a source is answered as asked in buffers that lack so much of their full sizes.
-pub fn replayed(src: &[u8], lacking: Lacking, asked: Answer, digits: &[u8]) -> bool {
+pub fn replayed(src: &[u8], lacking: Lacking, asked: Answer, digits: &[u8]) -> bool
+    ensures { λ r. ⌜ Replays (lentTo lacking) (now (src .entry)) asked (now (digits .entry)) r ⌝ }
+{
     let mut blocks = [0u16; 128];
     let mut words = [0u16; 65024];
     let mut marks = [0u8; 65024];

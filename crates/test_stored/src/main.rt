@@ -244,7 +244,7 @@ fn replay(data: &[u8], lacking: Lacking, line: u64) -> usize {
     ) {
         return number.next;
     }
-    test_support::differs(line);
+    io::write_all(STDOUT_FILENO, &test_support::difference(line));
     number.next
 }
 

@@ -25,7 +25,8 @@ use Rattle.view_due.specs.declared.Due.the-variants.{Statement, Directive, Comm
 use Rattle.view_due.specs.declared.Place.{Place}
 use Rattle.view_due.specs.Wanted.{dueAt, labelBefore}
 use Rattle.view_due.specs.Coded.{meant, spanOf}
-use Rattle.view_note.specs.Notes.{lowText, rangeText, fieldText, numText, numberText, numberAt, takesText, operandText, labelled, labelWords, said, saidAt, hasNote, noteText}
+use Rattle.view_far.specs.Far.{farNote}
+use Rattle.view_note.specs.Notes.{lowText, rangeText, fieldText, numText, numberText, numberAt, takesText, operandText, labelled, labelWords, said, saidAt, hasNote, dueNote, noteText}
 
 -- WHAT A FIELD TAKES, as the code has it
 abbrev pub takes : code.Field → List ℕ
@@ -149,11 +150,16 @@ module _ (s : List ℕ) (n place : ℕ) (d : Due) (q : meant d ≡ dueAt s place
     unfolding saidAt said meant
     said-operand f h p = rw (← q, h, meant, said) p
 
-module _ (s : List ℕ) (n place : ℕ) {t : Bool} (q : t ≡ hasNote n) where
+-- THE NOTE
+pub note-far : (s : List ℕ) (n place : ℕ) {b c : List ℕ} {at e : ℕ} → n ≡ 29 → Put b c at e (farNote s place) → Put b c at e (noteText s n place)
+unfolding noteText if_then_else_
+note-far s n place h p = rw (eq-eqb n 29 h) p
+
+module _ (s : List ℕ) (n place : ℕ) (o : n ≡ 29 → ⊥) {t : Bool} (q : t ≡ hasNote n) where
   pub note-put : {b c d f : List ℕ} {at j k e : ℕ} → t ≡ true → Put b c at j (bytes "note: ") → Put c d j k (saidAt s n place) → Put d f k e (10 ∷ []) → Put b f at e (noteText s n place)
-  unfolding noteText if_then_else_
-  note-put h p r u = rw (sym q ∙ h) (put-more (put-more p r) u)
+  unfolding noteText dueNote if_then_else_
+  note-put h p r u = rw (ne-eqb n 29 o, sym q ∙ h) (put-more (put-more p r) u)
 
   pub note-none : (b : List ℕ) (at : ℕ) → t ≡ false → Put b b at at (noteText s n place)
-  unfolding noteText if_then_else_
-  note-none b at h = rw (sym q ∙ h) (put-none b at)
+  unfolding noteText dueNote if_then_else_
+  note-none b at h = rw (ne-eqb n 29 o, sym q ∙ h) (put-none b at)

@@ -1,4 +1,4 @@
--- A note under a refused place: what was due there, or what the operand takes and what stands there. Assumes nothing.
+-- A note under a refused place: what was due there, what the operand takes and what stands there, or how far its label is. Assumes nothing.
 use Prim.Native.Nat.{ℕ, zero, suc}
 use mathlib.Core.Bool.{Bool, _||_}
 use mathlib.Core.List.{List, [], _++_}
@@ -12,6 +12,7 @@ use Rattle.rules.specs.Statements.{asNumber}
 use Rattle.lex.specs.Label.{labelText}
 use Rattle.view_text.specs.Texts.{decimal}
 use Rattle.view_due.specs.Wanted.{Wanted, statement, directive, comma, lineEnd, operand, dueAt, labelBefore}
+use Rattle.view_far.specs.Far.{farNote}
 
 -- the least number of a range that goes so far below 0, and the range
 unfoldable pub lowText : ℕ → List ℕ
@@ -66,9 +67,13 @@ said s n place (operand f) = operandText s n place f
 unfoldable pub saidAt : List ℕ → (n place : ℕ) → List ℕ
 saidAt s n place = said s n place (dueAt s place)
 
--- 13, 14 and 15 have a note
+-- 13, 14 and 15 have a note that says what is due
 unfoldable pub hasNote : ℕ → Bool
 hasNote n = eqb n 13 || eqb n 14 || eqb n 15
 
+unfoldable pub dueNote : List ℕ → (n place : ℕ) → List ℕ
+dueNote s n place = if hasNote n then (bytes "note: " ++ saidAt s n place ++ lf) else []
+
+-- 29 has one that says how far the label is
 unfoldable pub noteText : List ℕ → (n place : ℕ) → List ℕ
-noteText s n place = if hasNote n then (bytes "note: " ++ saidAt s n place ++ lf) else []
+noteText s n place = if eqb n 29 then farNote s place else dueNote s n place

@@ -1,4 +1,4 @@
-// A note under a refused place: what was due there, or what the operand takes and what stands there.
+// A note under a refused place: what was due there, what the operand takes and what stands there, or how far its label is.
 use base_casts::long16;
 use lex::next_lexeme;
 use parse_field::Field;
@@ -111,7 +111,7 @@ fn put_said(out: &mut [u8], at: usize, src: &[u8], number: u16, place: usize) ->
     }
 }
 
-// The refusals that have a note.
+// The refusals whose note says what is due.
 fn has_note(number: u16) -> bool
     ensures { λ r. ⌜ r ≡ hasNote number ⌝ }
 {
@@ -125,6 +125,9 @@ pub fn put_note(out: &mut [u8], at: usize, src: &[u8], number: u16, place: usize
     requires { ⌜ place ≤ length (now src) ⌝ }
     ensures { λ r. ⌜ Put (now (out .entry)) (now (out .exit)) at r (noteText (now (src .entry)) number place) ⌝ }
 {
+    if number == base_refusals::OFFSET_NEW_ERR {
+        return view_far::put_far(out, at, src, place);
+    }
     if has_note(number) {
         let a = put(out, at, b"note: ");
         let b = put_said(out, a, src, number, place);

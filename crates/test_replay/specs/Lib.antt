@@ -1,0 +1,3 @@
+-- What the contracts of `test_replay` cite beside the rules. Assumes nothing.
+pub mod Asked
+pub mod Replayed

@@ -1,0 +1,3 @@
+-- Laws that the proofs of `test_support` cite. Assumes nothing.
+pub mod Reading
+pub mod Writing
