@@ -127,158 +127,19 @@ fn linked(
     )
 }
 
-// The source at a place, or `+` and two of them linked.
-fn pair_at(
-    data: &[u8],
-    at: usize,
-    blocks: &mut [u16],
-    words: &mut [u16],
-    marks: &mut [u8],
-    labels: &mut [u32],
-    relocations: &mut [u32],
-    names: &mut [u8],
-) -> Told {
-    if base_text::byte_at(data, at) != b'+' {
-        return source_at(data, at, blocks, words, marks, labels, relocations, names);
-    }
-    let mut blocks1 = [0u16; object::BLOCK_ROOM];
-    let mut words1 = [0u16; WORDS];
-    let mut marks1 = [0u8; WORDS];
-    let mut labels1 = [0u32; object::LABEL_ROOM];
-    let mut relocations1 = [0u32; object::RELOCATION_ROOM];
-    let mut names1 = [0u8; object::NAME_ROOM];
-    let mut blocks2 = [0u16; object::BLOCK_ROOM];
-    let mut words2 = [0u16; WORDS];
-    let mut marks2 = [0u8; WORDS];
-    let mut labels2 = [0u32; object::LABEL_ROOM];
-    let mut relocations2 = [0u32; object::RELOCATION_ROOM];
-    let mut names2 = [0u8; object::NAME_ROOM];
-    let a = source_at(
-        data,
-        wrapping_add_usize(at, 2),
-        &mut blocks1,
-        &mut words1,
-        &mut marks1,
-        &mut labels1,
-        &mut relocations1,
-        &mut names1,
-    );
-    let b = source_at(
-        data,
-        a.next,
-        &mut blocks2,
-        &mut words2,
-        &mut marks2,
-        &mut labels2,
-        &mut relocations2,
-        &mut names2,
-    );
-    let answer = linked(
-        a.answer,
-        &blocks1,
-        &words1,
-        &marks1,
-        &labels1,
-        &relocations1,
-        &names1,
-        b.answer,
-        &blocks2,
-        &words2,
-        &marks2,
-        &labels2,
-        &relocations2,
-        &names2,
-        blocks,
-        words,
-        marks,
-        labels,
-        relocations,
-        names,
-    );
-    Told {
-        answer,
-        next: b.next,
-    }
+// Where the first of two linked begins behind a `+` and the byte after it.
+fn past_plus(at: usize) -> usize {
+    wrapping_add_usize(at, 2)
 }
 
-// The source at a place, or `+` and two of the above linked.
-fn pairs_at(
-    data: &[u8],
-    at: usize,
-    blocks: &mut [u16],
-    words: &mut [u16],
-    marks: &mut [u8],
-    labels: &mut [u32],
-    relocations: &mut [u32],
-    names: &mut [u8],
-) -> Told {
-    if base_text::byte_at(data, at) != b'+' {
-        return source_at(data, at, blocks, words, marks, labels, relocations, names);
-    }
-    let mut blocks1 = [0u16; object::BLOCK_ROOM];
-    let mut words1 = [0u16; WORDS];
-    let mut marks1 = [0u8; WORDS];
-    let mut labels1 = [0u32; object::LABEL_ROOM];
-    let mut relocations1 = [0u32; object::RELOCATION_ROOM];
-    let mut names1 = [0u8; object::NAME_ROOM];
-    let mut blocks2 = [0u16; object::BLOCK_ROOM];
-    let mut words2 = [0u16; WORDS];
-    let mut marks2 = [0u8; WORDS];
-    let mut labels2 = [0u32; object::LABEL_ROOM];
-    let mut relocations2 = [0u32; object::RELOCATION_ROOM];
-    let mut names2 = [0u8; object::NAME_ROOM];
-    let a = pair_at(
-        data,
-        wrapping_add_usize(at, 2),
-        &mut blocks1,
-        &mut words1,
-        &mut marks1,
-        &mut labels1,
-        &mut relocations1,
-        &mut names1,
-    );
-    let b = pair_at(
-        data,
-        a.next,
-        &mut blocks2,
-        &mut words2,
-        &mut marks2,
-        &mut labels2,
-        &mut relocations2,
-        &mut names2,
-    );
-    let answer = linked(
-        a.answer,
-        &blocks1,
-        &words1,
-        &marks1,
-        &labels1,
-        &relocations1,
-        &names1,
-        b.answer,
-        &blocks2,
-        &words2,
-        &marks2,
-        &labels2,
-        &relocations2,
-        &names2,
-        blocks,
-        words,
-        marks,
-        labels,
-        relocations,
-        names,
-    );
-    Told {
-        answer,
-        next: b.next,
-    }
-}
+// How deep links stand in links at most.
+const DEPTH: usize = 3;
 
-// The source at a place, or `+` and two of the above linked: every grouping of four.
+// The source at a place; or, where links may stand so deep, `+` and two such linked.
 fn tree_at(
     data: &[u8],
     at: usize,
+    depth: usize,
     blocks: &mut [u16],
     words: &mut [u16],
     marks: &mut [u8],
@@ -286,67 +147,71 @@ fn tree_at(
     relocations: &mut [u32],
     names: &mut [u8],
 ) -> Told {
-    if base_text::byte_at(data, at) != b'+' {
-        return source_at(data, at, blocks, words, marks, labels, relocations, names);
+    if 0 < depth {
+        if base_text::byte_at(data, at) == b'+' {
+            let mut blocks1 = [0u16; object::BLOCK_ROOM];
+            let mut words1 = [0u16; WORDS];
+            let mut marks1 = [0u8; WORDS];
+            let mut labels1 = [0u32; object::LABEL_ROOM];
+            let mut relocations1 = [0u32; object::RELOCATION_ROOM];
+            let mut names1 = [0u8; object::NAME_ROOM];
+            let mut blocks2 = [0u16; object::BLOCK_ROOM];
+            let mut words2 = [0u16; WORDS];
+            let mut marks2 = [0u8; WORDS];
+            let mut labels2 = [0u32; object::LABEL_ROOM];
+            let mut relocations2 = [0u32; object::RELOCATION_ROOM];
+            let mut names2 = [0u8; object::NAME_ROOM];
+            let a = tree_at(
+                data,
+                past_plus(at),
+                depth - 1,
+                &mut blocks1,
+                &mut words1,
+                &mut marks1,
+                &mut labels1,
+                &mut relocations1,
+                &mut names1,
+            );
+            let b = tree_at(
+                data,
+                a.next,
+                depth - 1,
+                &mut blocks2,
+                &mut words2,
+                &mut marks2,
+                &mut labels2,
+                &mut relocations2,
+                &mut names2,
+            );
+            let answer = linked(
+                a.answer,
+                &blocks1,
+                &words1,
+                &marks1,
+                &labels1,
+                &relocations1,
+                &names1,
+                b.answer,
+                &blocks2,
+                &words2,
+                &marks2,
+                &labels2,
+                &relocations2,
+                &names2,
+                blocks,
+                words,
+                marks,
+                labels,
+                relocations,
+                names,
+            );
+            return Told {
+                answer,
+                next: b.next,
+            };
+        }
     }
-    let mut blocks1 = [0u16; object::BLOCK_ROOM];
-    let mut words1 = [0u16; WORDS];
-    let mut marks1 = [0u8; WORDS];
-    let mut labels1 = [0u32; object::LABEL_ROOM];
-    let mut relocations1 = [0u32; object::RELOCATION_ROOM];
-    let mut names1 = [0u8; object::NAME_ROOM];
-    let mut blocks2 = [0u16; object::BLOCK_ROOM];
-    let mut words2 = [0u16; WORDS];
-    let mut marks2 = [0u8; WORDS];
-    let mut labels2 = [0u32; object::LABEL_ROOM];
-    let mut relocations2 = [0u32; object::RELOCATION_ROOM];
-    let mut names2 = [0u8; object::NAME_ROOM];
-    let a = pairs_at(
-        data,
-        wrapping_add_usize(at, 2),
-        &mut blocks1,
-        &mut words1,
-        &mut marks1,
-        &mut labels1,
-        &mut relocations1,
-        &mut names1,
-    );
-    let b = pairs_at(
-        data,
-        a.next,
-        &mut blocks2,
-        &mut words2,
-        &mut marks2,
-        &mut labels2,
-        &mut relocations2,
-        &mut names2,
-    );
-    let answer = linked(
-        a.answer,
-        &blocks1,
-        &words1,
-        &marks1,
-        &labels1,
-        &relocations1,
-        &names1,
-        b.answer,
-        &blocks2,
-        &words2,
-        &marks2,
-        &labels2,
-        &relocations2,
-        &names2,
-        blocks,
-        words,
-        marks,
-        labels,
-        relocations,
-        names,
-    );
-    Told {
-        answer,
-        next: b.next,
-    }
+    source_at(data, at, blocks, words, marks, labels, relocations, names)
 }
 
 // What was told, and the object in these buffers, held to the answer that is asked for behind it; where the next line begins.
@@ -393,7 +258,17 @@ fn replay(
     relocations: &mut [u32],
     names: &mut [u8],
 ) -> usize {
-    let told = tree_at(data, at, blocks, words, marks, labels, relocations, names);
+    let told = tree_at(
+        data,
+        at,
+        DEPTH,
+        blocks,
+        words,
+        marks,
+        labels,
+        relocations,
+        names,
+    );
     hold(
         data,
         told,
