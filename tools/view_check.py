@@ -55,6 +55,15 @@ def at_end(src, start):
     return " (the end of the line)" if src[start:start + 1] == b"\n" or src[start:start + 2] == b"\r\n" else ""
 
 
+def is_far(name, note):
+    """The note names the label, and says that it is further away than the operand reaches."""
+    found = re.match(r"note: (\w+) is (\d+) words (before|after) the next instruction; this operand reaches from (\d+) before it to (\d+) after it$", note)
+    if not found:
+        return False
+    reach = int(found.group(4 if found.group(3) == "before" else 5))
+    return found.group(1) == name and int(found.group(2)) > reach and reach in (255, 256, 1023, 1024)
+
+
 def refusal_fault(src, number, name, places, view):
     found = re.match(r"-:(?:\d+:\d+:)? (REFUSED %d %s: (\w[^()]*\w))( \(.*\))?$" % (number, name), view[0])
     if not found:
@@ -63,6 +72,8 @@ def refusal_fault(src, number, name, places, view):
         return None if view[0] == "-: " + found.group(1) and view[1:] == [""] else "no place"
     start, end, start2, end2 = places
     if number in (13, 14, 15) and not view.pop(3).startswith("note: "):
+        return "note"
+    if number == 29 and not is_far(src[start:end].decode(), view.pop(3)):
         return "note"
     if len(view) != (7 if end2 else 4):
         return "lines"
