@@ -3,12 +3,12 @@ use mathlib.Core.Path.{_≡_, refl, sym, _∙_, ap}
 use mathlib.Core.Bool.{Bool, true, false}
 use mathlib.Core.List.{List, [], _∷_}
 use mathlib.Core.Option.{none}
-use Prim.Native.Nat.{ℕ, _-_, _≤_}
+use Prim.Native.Nat.{ℕ, _+_, _-_, _≤_, _<_}
 use native.Mathlib.Omega.{arith}
 use lib.ListN.{length, getD}
 use Rattle.rules.specs.Base.{Outcome, ok, refused, _>>=_}
 use Rattle.rules.specs.Tables.{Table}
-use Rattle.rules.specs.Objects.{Name}
+use Rattle.rules.specs.Objects.{Name, word}
 use Rattle.rules.specs.Statements.{Stmt, Read, nextStatement, statementsAt, statements}
 use Rattle.rules.specs.Passes.{Symbol, Pass1State, pass1Start, Pass2State, pass2Start, written, passOne, passTwo}
 use Rattle.rules.specs.Buffers.{zeros}
@@ -30,7 +30,9 @@ use Rattle.parse_meaning.proofs.Read.{faithful}
 use Rattle.pass2_statement.specs.declared.Pass2State as code
 use Rattle.pass2_statement.specs.declared.Pass2Step.{Pass2Step}
 use Rattle.pass2_statement.specs.declared.Pass2Step.the-variants.{Went, Refused}
-use Rattle.pass2_statement.specs.State.{openOf, opened, viewPass2, told, Standing, Stepping, Writes}
+use Rattle.pass2_words.specs.Writing.{Room, Wrote}
+use Rattle.pass2_statement.specs.State.{openOf, opened, viewPass2, told, Standing, Stepping, Writes, withUsed}
+use Rattle.pass2_statement.proofs.Known.{Known, known-room, known-low, known-steps}
 use Rattle.pass2.specs.Passing.{fresh, Passing, PassedTwo}
 use Rattle.pass2.proofs.Room.{ready, writes}
 
@@ -208,3 +210,14 @@ module _ (rs src : List ℕ) (n : ℕ) (bs₀ os₀ ws₀ ms₀ bs os ws ms : Li
         kept = step .kept;
         shut = λ u z. (let w : Refused m b c d l ≡ Went u = sym e ∙ z in never cc);
       }
+
+    -- a statement whose word is known
+    module _ (k : Known st t) where
+      pub going-room : Room ws ms (t .used) 1
+      going-room = known-room rs src n bs os ws ms st t going-writes k
+
+      pub going-low : st .bits < 65536
+      going-low = known-low rs src n bs os ws ms st t going-writes k
+
+      pub going-known : (ws′ ms′ : List ℕ) (u : code.Pass2State) → Wrote ws ms ws′ ms′ (t .used) (word (st .bits) ∷ []) × (u ≡ withUsed t (t .used + 1)) → length ws′ ≡ length ws → length ms′ ≡ length ms → Going rs src n bs₀ os₀ ws₀ ms₀ bs os ws′ ms′ (st .next) u
+      going-known ws′ ms′ u w lw lm = going-on bs os ws′ ms′ (Went u) (known-steps rs src n bs os ws ms st t going-writes k ws′ ms′ (w .0) lw lm u (w .1)) u refl refl refl lw lm

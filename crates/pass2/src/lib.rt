@@ -39,6 +39,11 @@ pub fn pass_two(
     loop {
         match parse::next_statement(src, at) {
             NextStatement::Read(st) => {
+                if pass2_statement::is_known(st, t) {
+                    t = pass2_statement::put_known(words, marks, st, t);
+                    at = st.next;
+                    continue;
+                }
                 let answer = write_statement(src, rows, n, blocks, origs, words, marks, st, t);
                 match answer {
                     Pass2Step::Went(next) => {

@@ -3,3 +3,4 @@ pub mod Views
 pub mod Emitting
 pub mod Closing
 pub mod ByKind
+pub mod Known

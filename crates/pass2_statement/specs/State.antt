@@ -1,10 +1,11 @@
 -- The rules' state of pass two that the code's state and buffers stand for. Assumes nothing.
 use mathlib.Core.Path.{_≡_}
-use mathlib.Core.Bool.{Bool, true, false}
+use mathlib.Core.Bool.{Bool, true, false, _&&_}
 use mathlib.Core.Option.{Option, none, some}
 use mathlib.Core.List.{List}
 use Prim.Native.Nat.{ℕ, _+_, _-_, _*_, _≤_, _<_}
 use lib.ListN.{length, getD}
+use lib.Dec.{eqb}
 use Rattle.rules.specs.Base.{Outcome, ok, refuse2, span}
 use Rattle.rules.specs.Passes.{ObjBlock, objBlock, pass2State}
 use Rattle.rules.specs.Passes as rule
@@ -12,7 +13,8 @@ use Rattle.rules.specs.Buffers.{headRow, sumOf, WordRow}
 use Rattle.pass2_blocks.specs.Rows.{cellsAt, viewObjBlocks}
 use Rattle.pass2_blocks.specs.declared.Placing.{Placing}
 use Rattle.pass2_blocks.specs.declared.Placing.the-variants as placing
-use Rattle.parse_rows.specs.declared.Op.the-variants.{Orig}
+use Rattle.parse_rows.specs.declared.Op.{Op}
+use Rattle.parse_rows.specs.declared.Op.the-variants.{Instr, Orig, Fill, Blkw, Stringz, External}
 use Rattle.parse_rows.specs.declared.Op.the-variants as op
 use Rattle.parse.specs.declared.Statement.{Statement}
 use Rattle.pass2_encode.specs.Worded.{Ready}
@@ -62,6 +64,20 @@ pub record Stepping (bs′ os′ ws′ ms′ : List ℕ) (o : Outcome rule.Pass2
 -- the states that the steps make
 abbrev pub withUsed : Pass2State → ℕ → Pass2State
 withUsed t u = record { inside = t .inside; start = t .start; «orig_start» = t .«orig_start»; «orig_end» = t .«orig_end»; blocks = t .blocks; base = t .base; used = u }
+
+-- an instruction or a .fill: a word each
+abbrev pub oneWord : Op → Bool
+oneWord Instr = true
+oneWord Fill = true
+oneWord Blkw = false
+oneWord Stringz = false
+oneWord Orig = false
+oneWord op.End = false
+oneWord External = false
+
+-- without a label operand and in an open block its word is known
+unfoldable pub known : Statement → Pass2State → Bool
+known st t = oneWord (st .op) && eqb (st .reach) 0 && t .inside
 
 abbrev pub opening : Pass2State → (start a e : ℕ) → Pass2State
 opening t s a e = record { inside = true; start = s; «orig_start» = a; «orig_end» = e; blocks = t .blocks; base = t .base; used = t .used }

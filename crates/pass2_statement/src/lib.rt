@@ -8,13 +8,15 @@ use parse_rows::Op;
 use pass2_blocks::Placing;
 use pass2_words::Written;
 ghost use mathlib.Core.Path.{_≡_};
-ghost use mathlib.Core.List.{List};
+ghost use mathlib.Core.List.{List, [], _∷_};
 ghost use Prim.Native.Nat.{ℕ, _+_, _<_};
+ghost use Rattle.rules.specs.Objects.{word};
 ghost use Rattle.rules.specs.Statements.{Stmt};
 ghost use Rattle.rules.specs.Passes.{emit, finish, written};
 ghost use Rattle.pass1_symbols.specs.Symbols.{symbols};
 ghost use Rattle.parse_meaning.specs.Reading.{Faithful};
-ghost use Rattle.pass2_statement.specs.State.{viewPass2, Standing, Stepping, Emits, Begins, Ends, Writes, withUsed, opening, closing, stepOf, closeOf};
+ghost use Rattle.pass2_words.specs.Writing.{Room, Wrote};
+ghost use Rattle.pass2_statement.specs.State.{viewPass2, Standing, Stepping, Emits, Begins, Ends, Writes, withUsed, oneWord, known, opening, closing, stepOf, closeOf};
 
 // The open block's start and .orig, where a block is open; how many blocks are closed, with how many words; and how many words are in use, those of the open block with them.
 pub struct Pass2State {
@@ -128,6 +130,41 @@ fn emit_words(
         return step_of(t, answer);
     }
     refused(base_refusals::UNDET_ADDR_STMT, st.start, st.end)
+}
+
+// An instruction or a .fill.
+fn is_one_word(op: Op) -> bool
+    ensures { λ r. ⌜ r ≡ oneWord op ⌝ }
+{
+    match op {
+        Op::Instr => true,
+        Op::Fill => true,
+        Op::Blkw => false,
+        Op::Stringz => false,
+        Op::Orig => false,
+        Op::End => false,
+        Op::External => false,
+    }
+}
+
+// An instruction or a .fill without a label operand, where a block is open: its word is known, and nothing is refused.
+pub fn is_known(st: Statement, t: Pass2State) -> bool
+    ensures { λ r. ⌜ r ≡ known st t ⌝ }
+{
+    let op = st.op;
+    let one = is_one_word(op);
+    one & (st.reach == parse_field::NO_LABEL) & t.inside
+}
+
+// The known word of a statement behind those of the open block.
+pub fn put_known(words: &mut [u16], marks: &mut [u8], st: Statement, t: Pass2State) -> Pass2State
+    requires { ⌜ Room (now words) (now marks) (t .used) 1 ⌝ }
+    requires { ⌜ st .bits < 65536 ⌝ }
+    ensures { λ r. ⌜ Wrote (now (words .entry)) (now (marks .entry)) (now (words .exit)) (now (marks .exit)) (t .used) (word (st .bits) ∷ []) × (r ≡ withUsed t (t .used + 1)) ⌝ }
+{
+    let used = t.used;
+    pass2_words::push(words, marks, used, word16(st.bits));
+    with_used(t, used + 1)
 }
 
 // .orig: a block begins where none is open.

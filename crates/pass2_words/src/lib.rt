@@ -28,7 +28,7 @@ pub enum Written {
 }
 
 // A word behind those in use.
-fn push(words: &mut [u16], marks: &mut [u8], used: usize, w: u16)
+pub fn push(words: &mut [u16], marks: &mut [u8], used: usize, w: u16)
     requires { ⌜ Room (now words) (now marks) used 1 ⌝ }
     ensures { λ _. ⌜ Wrote (now (words .entry)) (now (marks .entry)) (now (words .exit)) (now (marks .exit)) used (word w ∷ []) ⌝ }
 {

@@ -3,7 +3,8 @@ use borrow.Author.Needs.{needs}
 use Prim.Native.Nat.{_-_}
 use lib.ListN.{length}
 use Rattle.parse.proofs.All.{rest-less}
-use Rattle.pass2.proofs.Loop.{Going, going-start, going-writes, going-on, going-refused, going-end, going-stop}
+use Rattle.pass2.proofs.Loop.{Going, going-start, going-writes, going-room, going-low, going-known, going-on, going-refused, going-end, going-stop}
+use Rattle.pass2_statement.proofs.Known.{is-known}
 use Rattle.pass2.proofs.pass_two.Statement.{statement}
 use Rattle.pass2.proofs.pass_two.Tie as tie
 
@@ -16,17 +17,28 @@ abbrev μ-loop : tie.MeasureT-loop
 loop-holds : tie.Need-loop-holds Inv-loop μ-loop
 loop-holds c = going-start _ _ _ _ _ _ _ (c .before .before .before .before .before .before .before .pre) _ (c .begin .ensures)
 
-write-statement-requires : tie.Need-write-statement-requires Inv-loop μ-loop
-write-statement-requires c κs = going-writes _ _ _ _ _ _ _ _ _ _ _ _ _ (c .before .before .before .before .before .before .before .before .loop .inv) _ (c .before .before .before .before .before .before .before .next-statement .ensures) _ (c .before .before .before .before .before .st .given .1)
+put-known-requires : tie.Need-put-known-requires Inv-loop μ-loop
+put-known-requires c κs =
+    let k = is-known _ _ (c .before .before .before .is-known .ensures) (c .before .before .if1 .taken) in
+    (going-room _ _ _ _ _ _ _ _ _ _ _ _ _ (c .before .before .before .before .before .before .before .before .loop .inv) _ (c .before .before .before .before .before .before .before .next-statement .ensures) _ (c .before .before .before .before .before .st .given .1) k, going-low _ _ _ _ _ _ _ _ _ _ _ _ _ (c .before .before .before .before .before .before .before .before .loop .inv) _ (c .before .before .before .before .before .before .before .next-statement .ensures) _ (c .before .before .before .before .before .st .given .1) k)
 
 loop-less : tie.Need-loop-less Inv-loop μ-loop
-loop-less c = rest-less _ _ _ (c .before .before .before .before .before .before .before .before .before .before .before .before .before .before .before .before .before .before .before .next-statement .ensures) _ (c .before .before .before .before .before .before .before .before .before .before .before .before .before .before .before .before .before .st .given .1)
+loop-less c = rest-less _ _ _ (c .before .before .before .before .before .before .before .before .before .before .before .before .next-statement .ensures) _ (c .before .before .before .before .before .before .before .before .before .before .st .given .1)
 
 loop-again : tie.Need-loop-again Inv-loop μ-loop
-loop-again c = going-on _ _ _ _ _ _ _ _ _ _ _ _ _ (c .before .before .before .before .before .before .before .before .before .before .before .before .before .before .before .before .before .before .before .before .loop .inv) _ (c .before .before .before .before .before .before .before .before .before .before .before .before .before .before .before .before .before .before .before .next-statement .ensures) _ (c .before .before .before .before .before .before .before .before .before .before .before .before .before .before .before .before .before .st .given .1) _ _ _ _ _ (c .before .before .before .before .before .before .before .before .before .before .before .write-statement .ensures) _ (c .before .answer .given .1) (search needs) (search needs) (search needs) (search needs)
+loop-again c = going-known _ _ _ _ _ _ _ _ _ _ _ _ _ (c .before .before .before .before .before .before .before .before .before .before .before .before .before .loop .inv) _ (c .before .before .before .before .before .before .before .before .before .before .before .before .next-statement .ensures) _ (c .before .before .before .before .before .before .before .before .before .before .st .given .1) (is-known _ _ (c .before .before .before .before .before .before .before .before .is-known .ensures) (c .before .before .before .before .before .before .before .if1 .taken)) _ _ _ (c .before .before .before .before .put-known .ensures) (search needs) (search needs)
+
+write-statement-requires : tie.Need-write-statement-requires Inv-loop μ-loop
+write-statement-requires c κs = going-writes _ _ _ _ _ _ _ _ _ _ _ _ _ (c .before .before .before .before .before .before .before .before .before .before .loop .inv) _ (c .before .before .before .before .before .before .before .before .before .next-statement .ensures) _ (c .before .before .before .before .before .before .before .st .given .1)
+
+loop-less-2 : tie.Need-loop-less-2 Inv-loop μ-loop
+loop-less-2 c = rest-less _ _ _ (c .before .before .before .before .before .before .before .before .before .before .before .before .before .before .before .before .before .before .before .before .before .next-statement .ensures) _ (c .before .before .before .before .before .before .before .before .before .before .before .before .before .before .before .before .before .before .before .st .given .1)
+
+loop-again-2 : tie.Need-loop-again-2 Inv-loop μ-loop
+loop-again-2 c = going-on _ _ _ _ _ _ _ _ _ _ _ _ _ (c .before .before .before .before .before .before .before .before .before .before .before .before .before .before .before .before .before .before .before .before .before .before .loop .inv) _ (c .before .before .before .before .before .before .before .before .before .before .before .before .before .before .before .before .before .before .before .before .before .next-statement .ensures) _ (c .before .before .before .before .before .before .before .before .before .before .before .before .before .before .before .before .before .before .before .st .given .1) _ _ _ _ _ (c .before .before .before .before .before .before .before .before .before .before .before .write-statement .ensures) _ (c .before .answer .given .1) (search needs) (search needs) (search needs) (search needs)
 
 returns : tie.Need-returns Inv-loop μ-loop
-returns c = going-refused _ _ _ _ _ _ _ _ _ _ _ _ _ (c .before .before .before .before .before .before .before .before .before .before .before .before .before .before .before .before .before .before .before .loop .inv) _ (c .before .before .before .before .before .before .before .before .before .before .before .before .before .before .before .before .before .before .next-statement .ensures) _ (c .before .before .before .before .before .before .before .before .before .before .before .before .before .before .before .before .st .given .1) _ _ _ _ _ (c .before .before .before .before .before .before .before .before .before .before .write-statement .ensures) _ _ _ _ _ (c .enum-told .given .1)
+returns c = going-refused _ _ _ _ _ _ _ _ _ _ _ _ _ (c .before .before .before .before .before .before .before .before .before .before .before .before .before .before .before .before .before .before .before .before .before .loop .inv) _ (c .before .before .before .before .before .before .before .before .before .before .before .before .before .before .before .before .before .before .before .before .next-statement .ensures) _ (c .before .before .before .before .before .before .before .before .before .before .before .before .before .before .before .before .before .before .st .given .1) _ _ _ _ _ (c .before .before .before .before .before .before .before .before .before .before .write-statement .ensures) _ _ _ _ _ (c .enum-told .given .1)
 
 returns-2 : tie.Need-returns-2 Inv-loop μ-loop
 returns-2 c = going-end _ _ _ _ _ _ _ _ _ _ _ _ _ (c .before .before .before .loop .inv) _ (c .before .before .next-statement .ensures) (c .enum-told2 .given .1)
@@ -44,10 +56,14 @@ pass-two-spec =
     loop-holds
     (λ c κs. search needs)
     (λ c. search needs)
-    write-statement-requires
-    (λ c. search needs)
+    (λ c κs. search needs)
+    put-known-requires
     loop-less
     loop-again
+    write-statement-requires
+    (λ c. search needs)
+    loop-less-2
+    loop-again-2
     (λ c. search needs)
     (λ c. search needs)
     (λ c. search needs)
