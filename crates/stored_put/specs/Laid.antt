@@ -2,8 +2,8 @@
 use mathlib.Core.Path.{_≡_}
 use mathlib.Core.Bool.{false}
 use mathlib.Core.List.{List, [], _∷_, _++_, map}
-use Prim.Native.Nat.{ℕ, zero, suc, _+_, _*_, _≤_}
-use lib.ListN.{length, replicate}
+use Prim.Native.Nat.{ℕ, zero, suc, _+_, _*_, _/_, _%_, _≤_}
+use lib.ListN.{length, getD, replicate}
 use lib.Seq.{paste}
 use Rattle.rules.specs.Objects.{Cell, flat, heads}
 use Rattle.rules.specs.Buffers.{Buffers, short, lentWords, lay, headCells, wordOf, markOf, nameBytes, labelCells, relocCells}
@@ -61,6 +61,18 @@ pub record Puts (b : List ℕ) (w r : Walk) (x y : Buffers) : Type 0 where
 
 unfoldable pub ones : ℕ → List ℕ
 ones n = replicate n 1
+
+-- a number whose bytes have changed places, n such numbers from a place on, and n words with their bytes changed
+abbrev pub turned : ℕ → ℕ
+turned w = w % 256 * 256 + w / 256
+
+unfoldable pub turnedNumbers : List ℕ → (start n : ℕ) → List ℕ
+turnedNumbers b i zero = []
+turnedNumbers b i (suc n) = (getD b i 0 + getD b (i + 1) 0 * 256) ∷ turnedNumbers b (i + 2) n
+
+unfoldable pub turnedFrom : List ℕ → (at n : ℕ) → List ℕ
+turnedFrom ws i zero = []
+turnedFrom ws i (suc n) = turned (getD ws i 0) ∷ turnedFrom ws (i + 1) n
 
 -- the n words from `start` on, each marked as set, from place `at` on
 pub record PutWords (b : List ℕ) (start n : ℕ) (ws ms ws′ ms′ : List ℕ) (at : ℕ) : Type 0 where

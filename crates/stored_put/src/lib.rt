@@ -2,14 +2,16 @@
 ghost use mathlib.Core.Path.{_≡_};
 ghost use Prim.Native.Nat.{_+_, _-_, _*_, _≤_, _<_};
 ghost use lib.ListN.{length};
+ghost use lib.Seq.{paste};
 ghost use Rattle.rules.specs.Buffers.{six};
 ghost use Rattle.laws_stored.specs.Offsets.{numberAt, partAt};
 ghost use Rattle.base_buffers.specs.Rows.{withRow};
-ghost use Rattle.stored_put.specs.Laid.{PutWords, WordRoom, LabelRoom, Labelled, Met, Puts};
+ghost use Rattle.stored_put.specs.Laid.{ones, turnedNumbers, turnedFrom, PutWords, WordRoom, LabelRoom, Labelled, Met, Puts};
 use base_capacities::DEFINED;
 use base_capacities::EXTERNAL;
 use base_capacities::SET;
 use base_casts::narrow;
+use base_casts::word8;
 use base_casts::word32;
 use object_layout_labels::NO_ADDRESS;
 use object_layout_labels::put_label;
@@ -34,18 +36,57 @@ fn put_block(bytes: &[u8], start: usize, blocks: &mut [u16], k: usize)
     base_buffers::row_u16(blocks, k, first, count);
 }
 
-// x02: n words, each marked as set, from word `at` on.
+// How many values a byte has.
+const BYTE: u16 = 0x100;
+
+// n numbers as words from `at` on, the byte that comes first as the low one: so the loop only copies bytes, many at once.
+fn put_turned(bytes: &[u8], start: usize, n: usize, words: &mut [u16], at: usize)
+    requires { ⌜ (start + n + n ≤ length (now bytes)) × (at + n ≤ length (now words)) ⌝ }
+    ensures { λ _. ⌜ now (words .exit) ≡ paste (now (words .entry)) at (turnedNumbers (now (bytes .entry)) start n) n ⌝ }
+{
+    let mut i = 0;
+    while i < n {
+        let first = start + i * NUMBER_BYTES;
+        let second = first + 1;
+        words[at + i] = word8(bytes[first]) + word8(bytes[second]) * BYTE;
+        i += 1;
+    }
+}
+
+// The bytes of n words from `at` on change places.
+fn turn(words: &mut [u16], at: usize, n: usize)
+    requires { ⌜ at + n ≤ length (now words) ⌝ }
+    ensures { λ _. ⌜ now (words .exit) ≡ paste (now (words .entry)) at (turnedFrom (now (words .entry)) at n) n ⌝ }
+{
+    let mut i = 0;
+    while i < n {
+        let k = at + i;
+        let word = words[k];
+        words[k] = word % BYTE * BYTE + word / BYTE;
+        i += 1;
+    }
+}
+
+// n words from `at` on are marked as set.
+fn put_marks(marks: &mut [u8], at: usize, n: usize)
+    requires { ⌜ at + n ≤ length (now marks) ⌝ }
+    ensures { λ _. ⌜ now (marks .exit) ≡ paste (now (marks .entry)) at (ones n) n ⌝ }
+{
+    let mut i = 0;
+    while i < n {
+        marks[at + i] = SET;
+        i += 1;
+    }
+}
+
+// x02: n words, each marked as set, from word `at` on. Three loops of which each does one thing go faster than one.
 fn put_words(bytes: &[u8], start: usize, n: usize, words: &mut [u16], marks: &mut [u8], at: usize)
     requires { ⌜ WordRoom (now bytes) start n (now words) (now marks) at ⌝ }
     ensures { λ _. ⌜ PutWords (now (bytes .entry)) start n (now (words .entry)) (now (marks .entry)) (now (words .exit)) (now (marks .exit)) at ⌝ }
 {
-    let mut i = 0;
-    while i < n {
-        let word = number_at(bytes, start + i * NUMBER_BYTES);
-        words[at + i] = word;
-        marks[at + i] = SET;
-        i += 1;
-    }
+    put_turned(bytes, start, n, words, at);
+    turn(words, at, n);
+    put_marks(marks, at, n);
 }
 
 // x04: the label of row k, defined at an address, whose name goes behind `at` name bytes.
