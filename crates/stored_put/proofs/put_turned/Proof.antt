@@ -14,7 +14,7 @@ abbrev μ-loop : tie.MeasureT-loop
 μ-loop bytes start n words₀ at i₀ words i = n - i
 
 mul-words : tie.Need-mul-words Inv-loop μ-loop
-mul-words c = let h = c .word82 .ensures in omega (arith, c .before .before .before .before .before .before .before .shared-slice-known .given (c .before .before .before .before .before .before .before .before .args .start + c .before .before .before .before .before .loop .i * 2 + 1))
+mul-words c = let g = c .before .before .word8 .ensures in let h = c .word82 .ensures in omega (arith, c .before .before .before .before .before .before .before .shared-slice-known .given (c .before .before .before .before .before .before .before .before .args .start + c .before .before .before .before .before .loop .i * 2), c .before .before .before .before .before .before .before .shared-slice-known .given (c .before .before .before .before .before .before .before .before .args .start + c .before .before .before .before .before .loop .i * 2 + 1))
 
 add-words : tie.Need-add-words Inv-loop μ-loop
 add-words c = let g = c .before .before .word8 .ensures in let h = c .word82 .ensures in omega (arith, c .before .before .before .before .before .before .before .shared-slice-known .given (c .before .before .before .before .before .before .before .before .args .start + c .before .before .before .before .before .loop .i * 2), c .before .before .before .before .before .before .before .shared-slice-known .given (c .before .before .before .before .before .before .before .before .args .start + c .before .before .before .before .before .loop .i * 2 + 1))

@@ -13,6 +13,9 @@ Inv-loop words₀ at n i₀ words i = Filling words₀ at (turnedFrom words₀ a
 abbrev μ-loop : tie.MeasureT-loop
 μ-loop words₀ at n i₀ words i = n - i
 
+mul-words : tie.Need-mul-words Inv-loop μ-loop
+mul-words c = omega (arith, c .slice-known .given (c .before .before .before .args .at + c .before .before .loop .i))
+
 add-words : tie.Need-add-words Inv-loop μ-loop
 add-words c = omega (arith, c .slice-known .given (c .before .before .before .args .at + c .before .before .loop .i))
 
@@ -26,7 +29,7 @@ turn-spec =
     (λ c. search needs)
     (λ c. search needs)
     (λ c. search needs)
-    (λ c. search needs)
+    mul-words
     add-words
     (λ c. search needs)
     (λ c. search needs)
