@@ -1,5 +1,6 @@
 -- Laws of the lexer: each way from a token's first byte. Assumes nothing.
 pub mod Narrowness
+pub mod OneDigit
 pub mod Told
 pub mod First
 pub mod LabelLaws

@@ -9,7 +9,7 @@ use lib.Dec.{eqb, leb, ltb}
 use lib.ListN.{length, getD, take, drop, length-drop}
 use lib.Seq.{drop-drop}
 use Rattle.rules.specs.Base.{if_then_else_, ok, span}
-use Rattle.rules.specs.Tokens.{Match, match, token, mark, bad, text, digit, letter, wordy, upper, value, while, begins, dec, decNeg, hex, hexNeg, reg, numberAfter, wrongAfter, wordAt, afterHash, afterMinus, afterX, afterR, Quoted, open′, closed, quoted, line, afterQuote, tokenAt, tokenIn, nextToken}
+use Rattle.rules.specs.Tokens.{Match, match, token, mark, register, bad, text, digit, letter, wordy, upper, value, while, begins, dec, decNeg, hex, hexNeg, reg, numberAfter, wrongAfter, wordAt, afterHash, afterMinus, afterX, afterR, Quoted, open′, closed, quoted, line, afterQuote, tokenAt, tokenIn, nextToken}
 use Rattle.rules.proofs.While.{yes-cons, no-cons}
 use Rattle.rules.proofs.Sizes.{while-short}
 use Rattle.rules.proofs.Shown.{take-while}
@@ -24,11 +24,12 @@ use Rattle.lex_literals.specs.Strings.{scan}
 use Rattle.lex_literals.specs.declared.Scanned.the-variants.{Closed, Open}
 use Rattle.lex_literals.proofs.StringRule.{scanned, scan-means}
 use Rattle.lex_token.specs.Coded.{marked, codedAs, coded, told}
-use Rattle.lex_token.specs.declared.Token.the-variants.{Ident, String, NewLine}
+use Rattle.lex_token.specs.declared.Token.the-variants.{Reg, Ident, String, NewLine}
 use Rattle.lex_token.specs.declared.Next.{Next}
 use Rattle.lex_token.specs.declared.Next.the-variants.{Took, End, Refused}
 use Rattle.lex_token.proofs.NumberTold.{word-end}
-use Rattle.lex.specs.Ways.{afterReturn, afterSemicolon}
+use Rattle.lex.specs.Ways.{shortRegister, afterReturn, afterSemicolon}
+use Rattle.lex.proofs.OneDigit.{short-is, no-digit, short-after}
 
 pub drop-from : (s : List ℕ) (k i j : ℕ) → i + k ≡ j → drop k (from s i) ≡ from s j
 unfolding from
@@ -83,6 +84,17 @@ module _ (s : List ℕ) (start : ℕ) (h : start < length s) where
 
   word-here : first ∷ rest ≡ from s start
   word-here = sym (from-step s start h)
+
+  -- R and one digit
+  pub r-short : {n : ℕ} → n ≡ shortRegister s (start + 1) → n < 8 → Took (Reg n) start (start + 2) ≡ toldAs (afterR first rest)
+  unfolding told here coded codedAs wordy digit letter
+  r-short {n} p l =
+      let q = short-is s (start + 1) n p l in
+      let i : start + 1 < length s = inside s (start + 1) (omega (arith, q .low)) in
+      let w : begins wordy (from s (start + 1 + 1)) ≡ false = begins-at wordy refl s (start + 1 + 1) ∙ q .alone in
+      let d : begins digit (from s (start + 1 + 1)) ≡ false = begins-at digit refl s (start + 1 + 1) ∙ no-digit (getD s (start + 1 + 1) 0) (q .alone) in
+      let t : afterR first rest ≡ match (token (register (getD s (start + 1) 0 - 48))) 2 = rw (from-step s (start + 1) i) (short-after first (getD s (start + 1) 0) (from s (start + 1 + 1)) (q .low) (q .high) w d) in
+      sym (ap toldAs t ∙ ap (λ (k : ℕ). Took (Reg k) start (start + 2)) (sym (q .is)))
 
   -- R
   module _ {e : ℕ} (p : e ≡ runEnd class.Digit s (start + 1)) where

@@ -1,10 +1,19 @@
 -- Some of the ways that the rule for a token takes by its first byte. Assumes nothing.
-use Prim.Native.Nat.{ℕ, _+_}
+use Prim.Native.Nat.{ℕ, _+_, _-_}
 use mathlib.Core.Bool.{not, _&&_}
 use mathlib.Core.List.{List}
-use lib.ListN.{length}
+use lib.Dec.{ltb}
+use lib.ListN.{length, getD}
 use Rattle.rules.specs.Base.{if_then_else_, is}
-use Rattle.rules.specs.Tokens.{Match, match, token, mark, bad, blank, begins, space, while, directiveAfter, afterQuote}
+use Rattle.rules.specs.Tokens.{Match, match, token, mark, bad, blank, begins, space, wordy, while, directiveAfter, afterQuote}
+
+-- the number of a register that is one digit at a place, with no word character behind it; 8 of anything else
+unfoldable pub shortRegister : List ℕ → ℕ → ℕ
+shortRegister s i =
+    if ltb (getD s i 0) 48 then 8
+    else if ltb 55 (getD s i 0) then 8
+    else if wordy (getD s (i + 1) 0) then 8
+    else getD s i 0 - 48
 
 -- a carriage return, and what follows it
 unfoldable pub afterReturn : List ℕ → Match

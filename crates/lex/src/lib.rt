@@ -10,7 +10,7 @@ ghost use Rattle.lex_token.specs.Flat.{flatNext};
 ghost use Rattle.lex_token.specs.Meant.{meant};
 ghost use Rattle.lex.specs.Label.{labelText};
 ghost use Rattle.lex.specs.Sorts.{Stands};
-ghost use Rattle.lex.specs.Ways.{afterReturn, afterSemicolon, afterOther};
+ghost use Rattle.lex.specs.Ways.{shortRegister, afterReturn, afterSemicolon, afterOther};
 use base_refusals::INVALID_NUMERIC;
 use base_refusals::INVALID_SYMBOL;
 use base_refusals::STR_LIT_TOO_BIG;
@@ -27,6 +27,7 @@ use lex_token::LABEL;
 use lex_token::Lexeme;
 use lex_token::NEWLINE;
 use lex_token::Next;
+use lex_token::REGISTER;
 use lex_token::RESERVED;
 use lex_token::STRING;
 use lex_token::flat;
@@ -50,12 +51,39 @@ fn lex_word(src: &[u8], start: usize) -> Lexeme
     }
 }
 
-// R and digits, where no more word characters follow; else a word.
+// The digit of the last register, and the number that stands for none.
+const LAST_REGISTER: u8 = b'7';
+
+const NO_REGISTER: u8 = 8;
+
+// The number of a register that is one digit at a place, with no word character behind it; NO_REGISTER of anything else.
+fn short_register(src: &[u8], at: usize) -> u8
+    requires { ⌜ at ≤ length (now src) ⌝ }
+    ensures { λ r. ⌜ r ≡ shortRegister (now (src .entry)) at ⌝ }
+{
+    let digit = base_text::byte_at(src, at);
+    if digit < b'0' {
+        return NO_REGISTER;
+    }
+    if LAST_REGISTER < digit {
+        return NO_REGISTER;
+    }
+    if base_text::is_word(base_text::byte_at(src, at + 1)) {
+        return NO_REGISTER;
+    }
+    digit - b'0'
+}
+
+// R and digits, where no more word characters follow; else a word. One digit is the frequent case.
 fn lex_r(src: &[u8], start: usize) -> Lexeme
     requires { ⌜ start < length (now src) ⌝ }
     ensures { λ r. ⌜ r ≡ flatNext (told (now (src .entry)) start (afterR (getD (now (src .entry)) start 0) (from (now (src .entry)) (start + 1)))) ⌝ }
 {
     let next = start + 1;
+    let number = short_register(src, next);
+    if number < NO_REGISTER {
+        return flat(REGISTER, number as u16, start, start + 2);
+    }
     let end = base_text::run_end(src, next, Class::Digit);
     if end <= next {
         return lex_word(src, start);

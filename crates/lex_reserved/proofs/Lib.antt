@@ -1,3 +1,3 @@
 -- Laws of the table of reserved words. Assumes nothing.
-pub mod Rows
+pub mod Keys
 pub mod Rule

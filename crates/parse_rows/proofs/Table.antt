@@ -1,21 +1,17 @@
 -- The table of rows is the rules' table. Assumes nothing.
 use Prim.Native.Nat.{ℕ, zero, suc, _+_, _-_, _/_, _%_, _≤_, _<_}
-use mathlib.Core.Path.{_≡_, sym, _∙_}
-use mathlib.Core.Bool.{Bool, true, false}
-use mathlib.Core.List.{List, [], _∷_, map}
+use mathlib.Core.Path.{_≡_}
 use native.Mathlib.Omega.{arith}
 use borrow.Author.Tests.{ne-eqb}
 use lib.ListN.{getD}
-use Rattle.rules.specs.Base.{if_then_else_, same}
-use Rattle.rules.specs.Tokens.{upper}
-use Rattle.rules.specs.Words.{directives}
+use Rattle.rules.specs.Base.{if_then_else_}
 use Rattle.rules.proofs.Run.{sameRun}
 use Rattle.parse_field.specs.declared.Field.{Field}
 use Rattle.parse_field.specs.declared.Field.the-variants.{Text}
 use Rattle.parse_rows.specs.declared.Op.{Op}
 use Rattle.parse_rows.specs.declared.Op.the-variants.{Instr}
 use Rattle.parse_rows.specs.declared.Row.{Row}
-use Rattle.parse_rows.specs.Rows.{table, cells, digitsAt, fieldAt, opAt, rowAt, codeFrom}
+use Rattle.parse_rows.specs.Rows.{table, cells, digitsAt, fieldAt, opAt, rowAt}
 
 pub field-rest : (k : ℕ) → (k ≡ 0 → ⊥) → (k ≡ 1 → ⊥) → (k ≡ 2 → ⊥) → (k ≡ 3 → ⊥) → (k ≡ 4 → ⊥) → (k ≡ 5 → ⊥) → (k ≡ 6 → ⊥) → (k ≡ 7 → ⊥) → (k ≡ 8 → ⊥) → (k ≡ 9 → ⊥) → Text ≡ fieldAt k
 unfolding fieldAt if_then_else_
@@ -64,38 +60,3 @@ module _ (i : ℕ) (l : i < 38) where
   pub row-made : (d : ℕ) (o : Op) (f g h : Field) → d ≡ digitsAt i → o ≡ opAt i → f ≡ fieldAt (d / 256 % 16) → g ≡ fieldAt (d / 16 % 16) → h ≡ fieldAt (d % 16) → _≡_ {A = Row} (record { op = o; base = d / 65536; count = d / 4096 % 16; first = f; second = g; third = h }) (rowAt i)
   unfolding rowAt
   row-made d o f g h p q u v w = rw (q, u, v, w, p, base-digits, count-digit, first-digit, second-digit, third-digit)
-
--- DIRECTIVES BY NAME: those before are not it
-module _ (w : List ℕ) (b1 : Bool) (e1 : b1 ≡ same w (map upper (79 ∷ 82 ∷ 73 ∷ 71 ∷ []))) where
-  pub code-1 : b1 ≡ true → 32 ≡ codeFrom 32 w directives
-  unfolding directives codeFrom if_then_else_ upper
-  code-1 t = rw (sym e1 ∙ t, codeFrom)
-
-  module _ (f1 : b1 ≡ false) (b2 : Bool) (e2 : b2 ≡ same w (map upper (70 ∷ 73 ∷ 76 ∷ 76 ∷ []))) where
-    pub code-2 : b2 ≡ true → 33 ≡ codeFrom 32 w directives
-    unfolding directives codeFrom if_then_else_ upper
-    code-2 t = rw (sym e1 ∙ f1, sym e2 ∙ t, codeFrom)
-
-    module _ (f2 : b2 ≡ false) (b3 : Bool) (e3 : b3 ≡ same w (map upper (66 ∷ 76 ∷ 75 ∷ 87 ∷ []))) where
-      pub code-3 : b3 ≡ true → 34 ≡ codeFrom 32 w directives
-      unfolding directives codeFrom if_then_else_ upper
-      code-3 t = rw (sym e1 ∙ f1, sym e2 ∙ f2, sym e3 ∙ t, codeFrom)
-
-      module _ (f3 : b3 ≡ false) (b4 : Bool) (e4 : b4 ≡ same w (map upper (83 ∷ 84 ∷ 82 ∷ 73 ∷ 78 ∷ 71 ∷ 90 ∷ []))) where
-        pub code-4 : b4 ≡ true → 35 ≡ codeFrom 32 w directives
-        unfolding directives codeFrom if_then_else_ upper
-        code-4 t = rw (sym e1 ∙ f1, sym e2 ∙ f2, sym e3 ∙ f3, sym e4 ∙ t, codeFrom)
-
-        module _ (f4 : b4 ≡ false) (b5 : Bool) (e5 : b5 ≡ same w (map upper (69 ∷ 78 ∷ 68 ∷ []))) where
-          pub code-5 : b5 ≡ true → 36 ≡ codeFrom 32 w directives
-          unfolding directives codeFrom if_then_else_ upper
-          code-5 t = rw (sym e1 ∙ f1, sym e2 ∙ f2, sym e3 ∙ f3, sym e4 ∙ f4, sym e5 ∙ t, codeFrom)
-
-          module _ (f5 : b5 ≡ false) (b6 : Bool) (e6 : b6 ≡ same w (map upper (69 ∷ 88 ∷ 84 ∷ 69 ∷ 82 ∷ 78 ∷ 65 ∷ 76 ∷ []))) where
-            pub code-6 : b6 ≡ true → 37 ≡ codeFrom 32 w directives
-            unfolding directives codeFrom if_then_else_ upper
-            code-6 t = rw (sym e1 ∙ f1, sym e2 ∙ f2, sym e3 ∙ f3, sym e4 ∙ f4, sym e5 ∙ f5, sym e6 ∙ t, codeFrom)
-
-            pub code-none : b6 ≡ false → 38 ≡ codeFrom 32 w directives
-            unfolding directives codeFrom if_then_else_ upper
-            code-none t = rw (sym e1 ∙ f1, sym e2 ∙ f2, sym e3 ∙ f3, sym e4 ∙ f4, sym e5 ∙ f5, sym e6 ∙ t, codeFrom)

@@ -3,6 +3,8 @@ use parse_field::Field;
 ghost use mathlib.Core.Path.{_≡_};
 ghost use mathlib.Core.List.{map};
 ghost use Prim.Native.Nat.{_≤_, _<_};
+ghost use lib.ListN.{length};
+ghost use Rattle.rules.specs.Base.{same};
 ghost use Rattle.rules.specs.Tokens.{upper};
 ghost use Rattle.rules.specs.Words.{directives};
 ghost use Rattle.parse_rows.specs.Rows.{digitsAt, fieldAt, opAt, rowAt, codeFrom};
@@ -174,18 +176,43 @@ pub fn row_at(i: usize) -> Row
     }
 }
 
+// How many letters FILL, BLKW and ORIG have. They are looked for by themselves: a .fill stands for each word of data.
+const FILL_LETTERS: usize = 4;
+
+// Whether a name of four letters is in upper case this word.
+fn spells(name: &[u8], word: &[u8; FILL_LETTERS]) -> bool
+    requires { ⌜ (length (now name) ≡ 4) × (length (now word) ≡ 4) ⌝ }
+    ensures { λ r. ⌜ r ≡ same (map upper (now (name .entry))) (now (word .entry)) ⌝ }
+{
+    (base_text::upper_case(name[0]) == word[0])
+        & (base_text::upper_case(name[1]) == word[1])
+        & (base_text::upper_case(name[2]) == word[2])
+        & (base_text::upper_case(name[3]) == word[3])
+}
+
+// The place in the table of the directive of this name of four letters, or ROWS where there is none.
+fn four_letter_code(name: &[u8]) -> usize
+    requires { ⌜ length (now name) ≡ 4 ⌝ }
+    ensures { λ r. ⌜ r ≡ codeFrom 32 (map upper (now (name .entry))) directives ⌝ }
+{
+    if spells(name, b"FILL") {
+        return FILL;
+    }
+    if spells(name, b"BLKW") {
+        return BLKW;
+    }
+    if spells(name, b"ORIG") {
+        return ORIG;
+    }
+    ROWS
+}
+
 // The place in the table of the directive of this name, in any case, or ROWS where there is none.
 pub fn directive_code(name: &[u8]) -> usize
     ensures { λ r. ⌜ r ≡ codeFrom 32 (map upper (now (name .entry))) directives ⌝ }
 {
-    if base_text::same_name(name, b"ORIG") {
-        return ORIG;
-    }
-    if base_text::same_name(name, b"FILL") {
-        return FILL;
-    }
-    if base_text::same_name(name, b"BLKW") {
-        return BLKW;
+    if name.len() == FILL_LETTERS {
+        return four_letter_code(name);
     }
     if base_text::same_name(name, b"STRINGZ") {
         return STRINGZ;

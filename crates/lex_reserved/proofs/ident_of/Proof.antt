@@ -1,29 +1,25 @@
 -- `lex_reserved::ident_of` meets its contract. Assumes nothing.
-use mathlib.Core.Path.{refl}
-use Rattle.lex_reserved.specs.Table.{words}
-use Rattle.lex_reserved.proofs.Rows.{find-none}
-use Rattle.lex_reserved.proofs.Rule.{ident-short, ident-long, ident-low, ident-high, ident-found, next-last}
+use native.Mathlib.Omega.{arith}
 use borrow.Author.Needs.{needs}
+use Rattle.lex_reserved.proofs.Rule.{ident-row, ident-none, ident-short, ident-long}
 use Rattle.lex_reserved.proofs.ident_of.Statement.{statement}
 use Rattle.lex_reserved.proofs.ident_of.Tie as tie
 
-find-row-requires : tie.Need-find-row-requires
-unfolding words
-find-row-requires c κs = (refl, search needs, rw (c .before .before .first-row2 .ensures) (next-last _ (c .before .before .before .before .before .if3 .left) (c .before .before .before .before .if4 .left)))
+returns-3 : tie.Need-returns-3
+returns-3 c = ident-row (c .before .before .before .before .before .before .before .args .s .now) (c .before .before .before .key-of .ensures .0) (c .before .before .slot-of .ensures) (c .before .slot-row .ensures) (c .if3 .taken) (λ k. omega (arith, c .before .before .before .before .before .before .shared-slice-known .given k))
+
+returns-4 : tie.Need-returns-4
+returns-4 c = ident-none (c .before .before .before .before .before .before .before .args .s .now) (c .before .before .before .key-of .ensures .0) (c .before .before .slot-of .ensures) (c .before .slot-row .ensures) (c .if3 .left) (λ k. omega (arith, c .before .before .before .before .before .before .shared-slice-known .given k))
 
 pub ident-of-spec : {M : Type 1} → statement M
 ident-of-spec =
     tie.close
     (tie.spec
-    (λ c. ident-short (c .before .before .args .s .now) (c .if1 .taken))
-    (λ c. ident-long (c .before .before .before .args .s .now) (c .before .if1 .left) (c .if2 .taken))
-    (λ c. search needs)
+    (λ c. search (needs, ident-short))
+    (λ c. search (needs, ident-long))
     (λ c κs. search needs)
-    (λ c. ident-low (c .before .before .before .before .before .before .args .s .now) (c .before .upper-case .ensures) (c .before .before .before .before .if1 .left) (c .before .before .before .if2 .left) (c .if3 .taken))
-    (λ c. ident-high (c .before .before .before .before .before .before .before .args .s .now) (c .before .before .upper-case .ensures) (c .before .before .before .before .before .if1 .left) (c .before .before .before .before .if2 .left) (c .before .if3 .left) (c .if4 .taken))
+    (λ c κs. search needs)
     (λ c κs. search needs)
     (λ c. search needs)
-    (λ c κs. search needs)
-    (λ c. ident-found (c .before .before .before .before .before .before .before .before .before .before .args .s .now) (c .before .before .before .before .before .upper-case .ensures) (c .before .before .before .before .before .before .before .before .if1 .left) (c .before .before .before .before .before .before .before .if2 .left) (c .before .before .before .before .if3 .left) (c .before .before .before .if4 .left) (c .before .before .first-row .ensures) (c .before .first-row2 .ensures) (find-none _ _ _ (c .if5 .taken)))
-    find-row-requires
-    (λ c. ident-found (c .before .before .before .before .before .before .before .before .before .before .before .before .args .s .now) (c .before .before .before .before .before .before .before .upper-case .ensures) (c .before .before .before .before .before .before .before .before .before .before .if1 .left) (c .before .before .before .before .before .before .before .before .before .if2 .left) (c .before .before .before .before .before .before .if3 .left) (c .before .before .before .before .before .if4 .left) (c .before .before .before .before .first-row .ensures) (c .before .before .before .first-row2 .ensures) (c .find-row .ensures)))
+    returns-3
+    returns-4)
