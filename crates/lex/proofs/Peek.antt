@@ -216,3 +216,15 @@ module _ (s : List ℕ) (at p : ℕ) (e : p ≡ runEnd class.Space s at) (c : �
       go : (b : Bool) → ltb p (length s) ≡ b → Leads
       go true b = let f = tokenAt c (drop (p + 1) s) in by-found (ltb-true _ _ b) (f .found) (f .size) (first-fits c (drop (p + 1) s)) (here-is (ltb-true _ _ b))
       go false b = no-end (ltb-false _ _ b)
+
+-- no mark m is the next token where another byte stands behind the spaces, if for a newline neither a carriage return nor a semicolon does
+pub peek-not : (s : List ℕ) (at p : ℕ) → p ≡ runEnd class.Space s at → (c : ℕ) → c ≡ getD s p 0 → (m : ℕ) → 0 < m → (c ≡ m → ⊥) → (m ≡ 10 → (c ≡ 13) ⊎ (c ≡ 59) → ⊥) → tokenIs (isMark m) s at ≡ false
+peek-not s at p e c q m n x z = go (tokenIs (isMark m) s at) refl
+  where
+    go : (b : Bool) → tokenIs (isMark m) s at ≡ b → b ≡ false
+    go true y = ⊎-elim (λ a. absurd (x a)) (λ a. absurd (z (a .0) (a .1))) (peek-leads s at p e c q m n y)
+    go false y = refl
+
+-- a byte that is not 0 stands inside
+pub peek-inside : (s : List ℕ) (p c : ℕ) → c ≡ getD s p 0 → 0 < c → p + 1 ≤ length s
+peek-inside s p c q n = omega (arith, inside s p (omega arith))
