@@ -6,3 +6,4 @@ pub mod First
 pub mod LabelLaws
 pub mod Standing
 pub mod Marks
+pub mod Peek

@@ -16,12 +16,13 @@ use Rattle.lex_token.specs.declared.Lexeme.{Lexeme}
 use Rattle.lex_token.specs.Flat.{faultSort}
 use Rattle.lex.specs.Sorts.{kindBy, Stands, NoFault}
 
-alike : Bool → Bool → Bool
+-- two Bools are the same, as a test that computes
+unfoldable pub alike : Bool → Bool → Bool
 alike true b = b
 alike false true = false
 alike false false = true
 
-alike-eq : (a b : Bool) → T (alike a b) → a ≡ b
+pub alike-eq : (a b : Bool) → T (alike a b) → a ≡ b
 unfolding alike
 alike-eq true true t = refl
 alike-eq true false t = absurd t

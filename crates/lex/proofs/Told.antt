@@ -245,18 +245,22 @@ module _ (s : List ℕ) (start : ℕ) (h : start < length s) where
 
   -- a comment
   module _ {e : ℕ} (p : e ≡ runEnd class.Line s (start + 1)) where
-    past-comment : toldAs (afterSemicolon rest) ≡ coded (nextToken s e)
-    unfolding told afterSemicolon runEnd inClass from
-    past-comment =
+    pub comment-past : here start (afterSemicolon rest) (drop (start + 1) s) ≡ nextToken s e
+    unfolding afterSemicolon runEnd inClass from
+    comment-past =
         let n : start + (1 + length (while (λ d. not (eqb d 10)) rest)) ≡ e = omega arith in
         let l : start + (1 + length (while (λ d. not (eqb d 10)) rest)) ≤ length s = omega (arith, while-short (λ d. not (eqb d 10)) rest, length-drop (start + 1) s) in
-        ap coded (here-blank s start (1 + length (while (λ d. not (eqb d 10)) rest)) (omega arith) l ∙ ap (nextToken s) n)
+        here-blank s start (1 + length (while (λ d. not (eqb d 10)) rest)) (omega arith) l ∙ ap (nextToken s) n
+
+    past-comment : toldAs (afterSemicolon rest) ≡ coded (nextToken s e)
+    unfolding told
+    past-comment = ap coded comment-past
 
     line-feed : e < length s → getD s e 0 ≡ 10
     unfolding inClass
     line-feed l = eqb-true (getD s e 0) 10 (not-false (eqb (getD s e 0) 10) (rw (← p) at (run-stops class.Line s (start + 1) (rw (← p) l))))
 
-    next-line : e < length s → nextToken s e ≡ ok (tokenIn (mark 10) (span e (e + 1)))
+    pub next-line : e < length s → nextToken s e ≡ ok (tokenIn (mark 10) (span e (e + 1)))
     unfolding here tokenAt digit letter upper if_then_else_
     next-line l = next-here s e l ∙ rw (line-feed l)
 

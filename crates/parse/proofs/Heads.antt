@@ -3,17 +3,17 @@ use Prim.Native.Nat.{ℕ, zero, suc, _+_, _-_, _≤_, _<_}
 use mathlib.Core.Path.{_≡_, refl, sym, _∙_, ap}
 use mathlib.Core.Bool.{Bool, true, false, _&&_, not}
 use mathlib.Core.List.{List, [], map}
-use mathlib.Core.Option.{none}
-use native.Mathlib.Decide.{decLt}
+use mathlib.Core.Option.{none, some}
+use native.Mathlib.Decide.{decLt, ℕ-discrete}
 use native.Mathlib.Omega.{arith}
 use borrow.Author.Tests.{eq-eqb, ne-eqb}
 use lib.Dec.{eqb}
 use lib.ListN.{length, take, drop, getD, length-drop, drop-of-length-le}
 use lib.Seq.{take-all}
 use Rattle.rules.specs.Base.{if_then_else_, ok, refuse, _>>=_, span}
-use Rattle.rules.specs.Tokens.{Kind, tokenIn, directive, word, upper, nextToken}
-use Rattle.rules.specs.Words.{instructions, directives}
-use Rattle.rules.specs.Statements.{Name, asWord, asDirective, need, pastLines, pastLabels, labelsAt, instrRead, tokenRead, nextStatement}
+use Rattle.rules.specs.Tokens.{tokenIn, directive, word, upper, nextToken}
+use Rattle.rules.specs.Words.{find, instructions, directives}
+use Rattle.rules.specs.Statements.{asWord, asDirective, need, pastLines, pastLabels, labelsAt, tokenRead, nextStatement}
 use Rattle.lex_token.specs.Meant.{part, kindAt}
 use Rattle.lex_token.specs.declared.Lexeme.{Lexeme}
 use Rattle.lex_token.specs.Flat.{faultSort}
@@ -21,13 +21,12 @@ use Rattle.lex.specs.Sorts.{nameOf, kindBy, noRow, Stands, NoFault}
 use Rattle.lex.proofs.Marks.{end-sort}
 use Rattle.parse_labels.specs.declared.Walk.{Walk}
 use Rattle.parse_labels.specs.Walk.{Walked}
-use Rattle.parse_rows.specs.declared.Row as rows
-use Rattle.parse_rows.specs.Rows.{fieldsBy, rowAt, Means, codeFrom}
-use Rattle.parse_rows.proofs.Rule.{Found, directive-found, directive-missed}
+use Rattle.parse_rows.specs.Rows.{codeFrom}
+use Rattle.parse_rows.proofs.Rule.{instruction-means, code-ge, Found, directive-found, directive-missed}
 use Rattle.parse.specs.declared.NextStatement.{NextStatement}
 use Rattle.parse.specs.declared.NextStatement.the-variants.{End, Refused}
-use Rattle.parse.specs.Coded.{codedStatement, unfitAt, rowStep, dotRead}
-use Rattle.parse.proofs.Reading.{row-coded}
+use Rattle.parse.specs.Coded.{codedStatement, unfitAt, codeStep, isBare, otherOf, codeAt, headlessAt}
+use Rattle.parse.proofs.Reading.{code-coded, instr-row}
 
 -- A DIRECTIVE'S NAME
 module _ (s : List ℕ) (dot e : ℕ) where
@@ -51,27 +50,38 @@ module _ (s : List ℕ) (dot e : ℕ) where
   unfolding part
   name-whole = refl
 
-pub code-few : (s : List ℕ) (i : ℕ) (w : Walk) → Walked s i w → w .token .sort ≡ 5 → w .token .value < 32
-code-few s i w k e = k .token .code e
+-- THE ROW THAT A TOKEN BEGINS
+module _ (s : List ℕ) (t : Lexeme) where
+  pub code-word : t .sort ≡ 5 → t .value ≡ codeAt s t
+  unfolding codeAt if_then_else_
+  code-word e = rw (eq-eqb (t .sort) 5 e)
 
--- A DIRECTIVE
-module _ (s : List ℕ) (b : Bool) (a e : ℕ) (n : List ℕ) (code : ℕ) (r : NextStatement) (p : n ≡ part s (a + 1) e) (q : code ≡ codeFrom 32 (map upper n) directives) where
-  coded-name : code ≡ codeFrom 32 (map upper (part s (a + 1) e)) directives
-  coded-name = rw p at q
+  pub code-dot : (t .sort ≡ 5 → ⊥) → t .sort ≡ 6 → (n : List ℕ) → n ≡ part s (t .start + 1) (t .end) → (code : ℕ) → code ≡ codeFrom 32 (map upper n) directives → code ≡ codeAt s t
+  unfolding codeAt if_then_else_
+  code-dot a e n p code q = rw (ne-eqb (t .sort) 5 a, eq-eqb (t .sort) 6 e) (rw p at q)
 
-  abbrev Dotted : Type 0
-  Dotted = (ls : List Name) (k : Kind) → b ≡ not (eqb (length ls) 0) → r ≡ codedStatement (dotRead s ls (map upper (part s (a + 1) e)) (tokenIn k (span a e)))
+  pub code-none : (t .sort ≡ 5 → ⊥) → (t .sort ≡ 6 → ⊥) → 38 ≡ codeAt s t
+  unfolding codeAt if_then_else_
+  code-none a b = rw (ne-eqb (t .sort) 5 a, ne-eqb (t .sort) 6 b)
 
-  pub directive-known : (c : rows.Row) → code < 38 → c ≡ rowAt code → r ≡ rowStep s b (c .op) (fieldsBy (c .count) (c .first) (c .second) (c .third)) 14 (c .base) a e → Dotted
-  unfolding need dotRead
-  directive-known c l h x ls k y =
-      let f : Found (map upper (part s (a + 1) e)) code directives = directive-found (map upper (part s (a + 1) e)) code coded-name l in
-      let m : Means c (f .row) = rw h (f .means) in
-      rw (f .is, need) (x ∙ rw (m .fields) (row-coded s ls b y k c (f .row) m (f .row .fields) 14 a e))
+-- NO ROW
+module _ (b : Bool) (t : Lexeme) (r : NextStatement) where
+  pub headless-long : t .sort ≡ 3 → r ≡ Refused 16 (t .start) (t .end) → r ≡ headlessAt b t
+  unfolding headlessAt if_then_else_
+  headless-long e f = rw (eq-eqb (t .sort) 3 e) f
 
-  pub directive-unknown : 38 ≤ code → r ≡ Refused 13 a e → Dotted
-  unfolding need codedStatement dotRead
-  directive-unknown l x ls k y = rw (directive-missed (map upper (part s (a + 1) e)) code coded-name l, need) x
+  module _ (n : t .sort ≡ 3 → ⊥) where
+    pub headless-labels : t .sort ≡ 10 → b ≡ true → r ≡ Refused 13 (t .start) (t .end) → r ≡ headlessAt b t
+    unfolding headlessAt if_then_else_
+    headless-labels e x f = rw (ne-eqb (t .sort) 3 n, eq-eqb (t .sort) 10 e, x) f
+
+    pub headless-unfit : (t .sort ≡ 10 → ⊥) → r ≡ unfitAt t → r ≡ headlessAt b t
+    unfolding headlessAt if_then_else_
+    headless-unfit e f = rw (ne-eqb (t .sort) 3 n, ne-eqb (t .sort) 10 e) f
+
+pub headless-end : (b : Bool) (t : Lexeme) → (t .sort ≡ 3 → ⊥) → t .sort ≡ 10 → b ≡ false → End ≡ headlessAt b t
+unfolding headlessAt if_then_else_
+headless-end b t n e x = rw (ne-eqb (t .sort) 3 n, eq-eqb (t .sort) 10 e, x)
 
 -- THE FIRST TOKEN AFTER LABELS
 module _ (s : List ℕ) (t : Lexeme) where
@@ -120,19 +130,47 @@ module _ (s : List ℕ) (i : ℕ) (w : Walk) (r : NextStatement) (k : Walked s i
   abbrev Answer : Type 0
   Answer = r ≡ codedStatement (nextStatement s i)
 
-  pub head-instruction : t .sort ≡ 5 → ((ls : List Name) (k : Kind) → w .labelled ≡ not (eqb (length ls) 0) → r ≡ codedStatement (instrRead s ls (getD instructions (t .value) noRow) (tokenIn k (span (t .start) (t .end))))) → Answer
-  unfolding tokenRead asDirective asWord
-  head-instruction e f =
-      let q : nextStatement s i ≡ tokenRead s (labelsAt s i) (tokenIn (word (nameOf s t)) (span (t .start) (t .end))) = at-token (omega arith) ∙ rw e in
-      f (labelsAt s i) (word (nameOf s t)) (k .labelled) ∙ ap codedStatement (sym (q ∙ rw (h .reserved e, tokenRead)))
+  module _ (code : ℕ) (c : code ≡ codeAt s t) where
+    -- what is read of the row
+    abbrev RowAt : Type 0
+    RowAt = r ≡ codeStep s (w .labelled) code (isBare s code (t .end)) (otherOf code) (t .start) (t .end)
 
-  pub head-directive : t .sort ≡ 6 → ((ls : List Name) (k : Kind) → w .labelled ≡ not (eqb (length ls) 0) → r ≡ codedStatement (dotRead s ls (map upper (part s (t .start + 1) (t .end))) (tokenIn k (span (t .start) (t .end))))) → Answer
-  unfolding tokenRead asDirective kindAt dotRead
-  head-directive e f =
-      let q : nextStatement s i ≡ tokenRead s (labelsAt s i) (tokenIn (directive (map upper (part s (t .start + 1) (t .end)))) (span (t .start) (t .end))) = at-token (omega arith) ∙ rw e in
-      f (labelsAt s i) (directive (map upper (part s (t .start + 1) (t .end)))) (k .labelled) ∙ ap codedStatement (sym q)
+    head-instruction : t .sort ≡ 5 → RowAt → Answer
+    unfolding tokenRead asDirective asWord
+    head-instruction e f =
+        let v : code ≡ t .value = c ∙ sym (code-word s t e) in
+        let l : code < 32 = omega (arith, h .code e) in
+        let u : find (nameOf s t) instructions ≡ some (getD instructions code noRow) = rw v (h .reserved e) in
+        let q : nextStatement s i ≡ tokenRead s (labelsAt s i) (tokenIn (word (nameOf s t)) (span (t .start) (t .end))) = at-token (omega arith) ∙ rw e in
+        f
+        ∙ code-coded s (labelsAt s i) (w .labelled) (k .labelled) (word (nameOf s t)) code (getD instructions code noRow) (instruction-means code l) (otherOf code) (t .start) (t .end) (isBare s code (t .end))
+        ∙ ap codedStatement (sym (q ∙ rw (u, tokenRead) (instr-row s (labelsAt s i) code l (word (nameOf s t)) (t .start) (t .end))))
 
-  pub head-label : t .sort ≡ 3 → r ≡ Refused 16 (t .start) (t .end) → Answer
+    -- a directive's place lies behind NOP's
+    dot-code : t .sort ≡ 6 → code ≡ codeFrom 32 (map upper (part s (t .start + 1) (t .end))) directives
+    unfolding codeAt if_then_else_
+    dot-code e = c ∙ rw e
+
+    head-directive : t .sort ≡ 6 → code < 38 → RowAt → Answer
+    unfolding tokenRead asDirective kindAt need isBare otherOf if_then_else_
+    head-directive e l f =
+        let n = map upper (part s (t .start + 1) (t .end)) in
+        let d : Found n code directives = directive-found n code (dot-code e) l in
+        let z : eqb code 22 ≡ false = ne-eqb code 22 (λ (x : code ≡ 22). omega (arith, dot-code e, code-ge 32 n directives)) in
+        let q : nextStatement s i ≡ tokenRead s (labelsAt s i) (tokenIn (directive n) (span (t .start) (t .end))) = at-token (omega arith) ∙ rw e in
+        (rw z at f)
+        ∙ code-coded s (labelsAt s i) (w .labelled) (k .labelled) (directive n) code (d .row) (d .means) 14 (t .start) (t .end) false
+        ∙ ap codedStatement (sym (q ∙ rw (d .is, need)))
+
+    head-unknown : t .sort ≡ 6 → 38 ≤ code → r ≡ Refused 13 (t .start) (t .end) → Answer
+    unfolding tokenRead asDirective kindAt need codedStatement
+    head-unknown e l f =
+        let n = map upper (part s (t .start + 1) (t .end)) in
+        let q : nextStatement s i ≡ tokenRead s (labelsAt s i) (tokenIn (directive n) (span (t .start) (t .end))) = at-token (omega arith) ∙ rw e in
+        let u : nextStatement s i ≡ refuse 13 (span (t .start) (t .end)) = q ∙ rw (directive-missed n code (dot-code e) l, need) in
+        f ∙ ap codedStatement (sym u)
+
+  head-label : t .sort ≡ 3 → r ≡ Refused 16 (t .start) (t .end) → Answer
   unfolding tokenRead asDirective asWord codedStatement
   head-label e f =
       let q : nextStatement s i ≡ tokenRead s (labelsAt s i) (tokenIn (word (nameOf s t)) (span (t .start) (t .end))) = at-token (omega arith) ∙ rw e in
@@ -148,29 +186,17 @@ module _ (s : List ℕ) (i : ℕ) (w : Walk) (r : NextStatement) (k : Walked s i
         let w : asWord (kindBy s (t .sort) t) ≡ none = not-word s t (t .sort) c a in
         at-token l ∙ rw (d, w, tokenRead, end-sort s t (t .sort) l)
 
-  pub head-labelled : t .sort ≡ 10 → w .labelled ≡ true → r ≡ Refused 13 (t .start) (t .end) → Answer
+  head-end : t .sort ≡ 10 → r ≡ (if w .labelled then Refused 13 (t .start) (t .end) else End) → Answer
   unfolding codedStatement if_then_else_
-  head-labelled e b f =
-      let z : eqb (length (labelsAt s i)) 0 ≡ false = flip (eqb (length (labelsAt s i)) 0) (sym (k .labelled) ∙ b) in
-      let u : nextStatement s i ≡ refuse 13 (span (t .start) (t .end)) = other-token (omega arith) (λ (x : t .sort ≡ 5). omega arith) (λ (x : t .sort ≡ 6). omega arith) (λ (x : t .sort ≡ 3). omega arith) ∙ rw (eq-eqb (t .sort) 10 e, z) in
-      f ∙ ap codedStatement (sym u)
+  head-end e f =
+      let u : nextStatement s i ≡ (if eqb (length (labelsAt s i)) 0 then ok none else refuse 13 (span (t .start) (t .end))) = other-token (omega arith) (λ (x : t .sort ≡ 5). omega arith) (λ (x : t .sort ≡ 6). omega arith) (λ (x : t .sort ≡ 3). omega arith) ∙ rw (eq-eqb (t .sort) 10 e) in
+      f ∙ rw (k .labelled, u) (go (eqb (length (labelsAt s i)) 0))
     where
-      flip : (b : Bool) → not b ≡ true → b ≡ false
-      flip true e = sym e
-      flip false e = refl
+      go : (b : Bool) → (if not b then Refused 13 (t .start) (t .end) else End) ≡ codedStatement (if b then ok none else refuse 13 (span (t .start) (t .end)))
+      go true = refl
+      go false = refl
 
-  none-there : t .sort ≡ 10 → w .labelled ≡ false → End ≡ codedStatement (nextStatement s i)
-  unfolding codedStatement if_then_else_
-  none-there e b =
-      let z : eqb (length (labelsAt s i)) 0 ≡ true = flip (eqb (length (labelsAt s i)) 0) (sym (k .labelled) ∙ b) in
-      let u : nextStatement s i ≡ ok none = other-token (omega arith) (λ (x : t .sort ≡ 5). omega arith) (λ (x : t .sort ≡ 6). omega arith) (λ (x : t .sort ≡ 3). omega arith) ∙ rw (eq-eqb (t .sort) 10 e, z) in
-      ap codedStatement (sym u)
-    where
-      flip : (b : Bool) → not b ≡ false → b ≡ true
-      flip true e = refl
-      flip false e = sym e
-
-  pub head-unfit : (t .sort ≡ 5 → ⊥) → (t .sort ≡ 6 → ⊥) → (t .sort ≡ 3 → ⊥) → (t .sort ≡ 10 → ⊥) → r ≡ unfitAt t → Answer
+  head-unfit : (t .sort ≡ 5 → ⊥) → (t .sort ≡ 6 → ⊥) → (t .sort ≡ 3 → ⊥) → (t .sort ≡ 10 → ⊥) → r ≡ unfitAt t → Answer
   unfolding codedStatement unfitAt if_then_else_
   head-unfit a b c d f = go (decLt (t .sort) faultSort)
     where
@@ -183,5 +209,25 @@ module _ (s : List ℕ) (i : ℕ) (w : Walk) (r : NextStatement) (k : Walked s i
           let u : nextStatement s i ≡ refuse (t .value) (span (t .start) (t .end)) = at-head ∙ rw (h .bad (omega arith)) in
           (rw (eq-eqb (t .sort) faultSort z) at f) ∙ ap codedStatement (sym u)
 
-pub head-none : (s : List ℕ) (i : ℕ) (w : Walk) → Walked s i w → w .token .sort ≡ 10 → w .labelled ≡ false → End ≡ codedStatement (nextStatement s i)
-head-none s i w k e b = none-there s i w End k e b
+  module _ (code : ℕ) (c : code ≡ codeAt s t) where
+    pub head-row : code < 38 → (bare : Bool) → bare ≡ isBare s code (t .end) → (other : ℕ) → other ≡ otherOf code → r ≡ codeStep s (w .labelled) code bare other (t .start) (t .end) → Answer
+    head-row l bare p other q f = go (ℕ-discrete (t .sort) 5) (ℕ-discrete (t .sort) 6)
+      where
+        row : RowAt code c
+        row = rw (p, q) at f
+
+        go : Dec (t .sort ≡ 5) → Dec (t .sort ≡ 6) → Answer
+        go (yes e) d = head-instruction code c e row
+        go (no a) (yes e) = head-directive code c e l row
+        go (no a) (no b) = absurd (omega (arith, c, code-none s t a b))
+
+    pub head-less : 38 ≤ code → r ≡ headlessAt (w .labelled) t → Answer
+    unfolding headlessAt unfitAt if_then_else_
+    head-less l f = go (ℕ-discrete (t .sort) 5) (ℕ-discrete (t .sort) 6) (ℕ-discrete (t .sort) 3) (ℕ-discrete (t .sort) 10)
+      where
+        go : Dec (t .sort ≡ 5) → Dec (t .sort ≡ 6) → Dec (t .sort ≡ 3) → Dec (t .sort ≡ 10) → Answer
+        go (yes e) x y z = absurd (omega (arith, c, code-word s t e, h .code e))
+        go (no a) (yes e) y z = head-unknown code c e l (rw e at f)
+        go (no a) (no b) (yes e) z = head-label e (rw e at f)
+        go (no a) (no b) (no d) (yes e) = head-end e (rw e at f)
+        go (no a) (no b) (no d) (no g) = head-unfit a b d g (rw (ne-eqb (t .sort) 3 d, ne-eqb (t .sort) 10 g) at f)

@@ -1,7 +1,7 @@
 -- A statement by its row: the code's reading is the rules'. Assumes nothing.
-use Prim.Native.Nat.{ℕ, _<_}
+use Prim.Native.Nat.{ℕ, _+_, _<_}
 use mathlib.Core.Path.{_≡_, refl, sym, _∙_, ap}
-use mathlib.Core.Bool.{Bool, true, false, _||_, not}
+use mathlib.Core.Bool.{Bool, true, false, _&&_, _||_, not}
 use mathlib.Core.List.{List, []}
 use mathlib.Core.Option.{some}
 use native.Mathlib.Decide.{decLt}
@@ -13,14 +13,17 @@ use Rattle.rules.specs.Base.{if_then_else_, Outcome, ok, refused, refuse, requi
 use Rattle.rules.specs.Tokens.{Kind, tokenIn}
 use Rattle.rules.specs.Words.{end, instructions}
 use Rattle.rules.specs.Words as words
-use Rattle.rules.specs.Statements.{Name, ends, tokenIs, bare, operandsFrom, lineEnd, read, stmt, rowRead, instrRead}
+use Rattle.rules.specs.Statements.{Name, isMark, ends, tokenIs, bare, operandsFrom, lineEnd, read, stmt, rowRead, instrRead}
 use Rattle.rules.specs.Statements as rules
 use Rattle.rules.proofs.Instructions.{optional-zero}
 use Rattle.rules.proofs.Ahead.{is-token, is-refused}
+use Rattle.base_text.specs.Runs.{runEnd}
+use Rattle.base_text.specs.declared.Class.the-variants as class
 use Rattle.lex_token.specs.declared.Lexeme.{Lexeme}
 use Rattle.lex_token.specs.Flat.{faultSort}
 use Rattle.lex.specs.Sorts.{kindBy, noRow, Stands, NoFault}
 use Rattle.lex.proofs.Marks.{line-sort, end-sort}
+use Rattle.lex.proofs.Peek.{stands-from, peek-from, peek}
 use Rattle.parse_field.specs.declared.Given.{Given}
 use Rattle.parse_field.specs.declared.Step.{Step}
 use Rattle.parse_field.specs.declared.Step.the-variants as step
@@ -29,12 +32,12 @@ use Rattle.parse_rows.specs.declared.Op.the-variants.{Instr, Orig, Fill, Blkw, 
 use Rattle.parse_rows.specs.declared.Op.the-variants as op
 use Rattle.parse_rows.specs.declared.Row.{Row}
 use Rattle.parse_rows.specs.Rows.{fieldsBy, opOf, rowAt, Means}
-use Rattle.parse_rows.proofs.Rule.{instruction-means}
+use Rattle.parse_rows.proofs.Rule.{instruction-means, nop-zero}
 use Rattle.parse_operands.specs.Lines.{codedGiven, codedStep, lineStep}
 use Rattle.parse.specs.declared.NextStatement.{NextStatement}
 use Rattle.parse.specs.declared.NextStatement.the-variants.{Refused}
 use Rattle.parse.specs.declared.NextStatement.the-variants as next
-use Rattle.parse.specs.Coded.{codedOp, codedRead, codedStatement, unfitAt, made, ended, finished, after, rowStep, bareRow, nopStep}
+use Rattle.parse.specs.Coded.{codedOp, codedRead, codedStatement, unfitAt, made, ended, finished, after, rowStep, countDue, codeStep, isBare, otherOf}
 
 module _ (t : Lexeme) (r : NextStatement) where
   pub unfit-own : t .sort ≡ faultSort → r ≡ Refused (t .value) (t .start) (t .end) → r ≡ unfitAt t
@@ -55,20 +58,25 @@ module _ (s : List ℕ) (i : ℕ) (t : Lexeme) (h : Stands s i t) where
   unfolding lineEnd
   end-token l = rw (h .token l, lineEnd, ends-sort l)
 
-  pub ends-line : t .sort ≡ 9 → tokenIs ends s i ≡ true
-  ends-line e = is-token ends s i _ (h .token (omega arith)) ∙ (ends-sort (omega arith) ∙ rw (eq-eqb (t .sort) 9 e))
-
-  pub ends-end : (t .sort ≡ 9 → ⊥) → t .sort ≡ 10 → tokenIs ends s i ≡ true
-  ends-end n e = is-token ends s i _ (h .token (omega arith)) ∙ (ends-sort (omega arith) ∙ rw (ne-eqb (t .sort) 9 n, eq-eqb (t .sort) 10 e))
-
-  pub ends-no : (t .sort ≡ 9 → ⊥) → (t .sort ≡ 10 → ⊥) → tokenIs ends s i ≡ false
-  ends-no n m = go (decLt (t .sort) faultSort)
+  pub ends-by-sort : tokenIs ends s i ≡ (eqb (t .sort) 9 || eqb (t .sort) 10)
+  ends-by-sort = go (decLt (t .sort) faultSort)
     where
-      go : Dec (NoFault t) → tokenIs ends s i ≡ false
-      go (yes l) = is-token ends s i _ (h .token l) ∙ (ends-sort l ∙ rw (ne-eqb (t .sort) 9 n, ne-eqb (t .sort) 10 m))
-      go (no l) = is-refused ends s i _ (h .bad (omega arith))
+      go : Dec (NoFault t) → tokenIs ends s i ≡ (eqb (t .sort) 9 || eqb (t .sort) 10)
+      go (yes l) = is-token ends s i _ (h .token l) ∙ ends-sort l
+      go (no l) = is-refused ends s i _ (h .bad (omega arith)) ∙ sym (rw (ne-eqb (t .sort) 9 (λ (z : t .sort ≡ 9). omega arith), ne-eqb (t .sort) 10 (λ (z : t .sort ≡ 10). omega arith)))
 
-module _ (s : List ℕ) (b : Bool) (o : Op) (a : ℕ) (g : Given) (t : Lexeme) (r : NextStatement) (h : Stands s (g .stop) t) where
+-- a line feed, by its byte
+pub finish-feed : (s : List ℕ) (b : Bool) (o : Op) (a : ℕ) (g : Given) (p : ℕ) → p ≡ runEnd class.Space s (g .stop) → (c : ℕ) → c ≡ getD s p 0 → c ≡ 10 → (r : NextStatement) → r ≡ next.Read (made b o a g (p + 1)) → r ≡ finished s b o a g
+unfolding finished ended lineEnd ends isMark
+finish-feed s b o a g p e c q x r y =
+    let l : lineEnd s (g .stop) ≡ ok (p + 1) = rw (peek s (g .stop) p e 10 (sym x ∙ q) refl, lineEnd) in
+    rw (l, ended) y
+
+-- any other token
+module _ (s : List ℕ) (b : Bool) (o : Op) (a : ℕ) (g : Given) (p : ℕ) (f : p ≡ runEnd class.Space s (g .stop)) (t : Lexeme) (r : NextStatement) (k : Stands s p t) where
+  h : Stands s (g .stop) t
+  h = stands-from s (g .stop) p t (peek-from s (g .stop) p f) k
+
   pub finish-line : t .sort ≡ 9 → r ≡ next.Read (made b o a g (t .end)) → r ≡ finished s b o a g
   unfolding finished ended
   finish-line e q =
@@ -129,35 +137,51 @@ module _ (s : List ℕ) (ls : List Name) (b : Bool) (l : b ≡ not (eqb (length 
       by-given (ok g) = by-end g (lineEnd s (g .stop))
       by-given (refused x) = refl
 
+-- THE ROW AT A PLACE OF THE TABLE
+module _ (s : List ℕ) (b : Bool) (code : ℕ) (bare : Bool) (other a e : ℕ) (c : Row) (p : c ≡ rowAt code) (n : ℕ) (q : n ≡ countDue (c .count) bare) (x : Step) (h : x ≡ lineStep s (fieldsBy n (c .first) (c .second) (c .third)) other (c .base) e) (r : NextStatement) where
+  is-step : rowStep s b (c .op) (fieldsBy n (c .first) (c .second) (c .third)) other (c .base) a e ≡ codeStep s b code bare other a e
+  unfolding codeStep
+  is-step = rw (← p, q)
+
+  pub code-took : (g : Given) → x ≡ step.Took g → r ≡ finished s b (c .op) a g → r ≡ codeStep s b code bare other a e
+  code-took g y z = row-took s b (c .op) (fieldsBy n (c .first) (c .second) (c .third)) other (c .base) a e x h r g y z ∙ is-step
+
+  pub code-refused : (m j i : ℕ) → x ≡ step.Refused m j i → r ≡ Refused m j i → r ≡ codeStep s b code bare other a e
+  code-refused m j i y z = row-refused s b (c .op) (fieldsBy n (c .first) (c .second) (c .third)) other (c .base) a e x h r m j i y z ∙ is-step
+
+module _ (s : List ℕ) (ls : List Name) (b : Bool) (l : b ≡ not (eqb (length ls) 0)) (k : Kind) (code : ℕ) (r : words.Row) (m : Means (rowAt code) r) (other a e : ℕ) where
+  pub code-coded : (bare : Bool) → codeStep s b code bare other a e ≡ codedStatement (rowRead s ls r (tokenIn k (span a e)) (if bare then [] else r .fields) other)
+  unfolding codeStep countDue if_then_else_
+  code-coded true = row-coded s ls b l k (rowAt code) r m [] other a e
+  code-coded false = rw (m .fields) (row-coded s ls b l k (rowAt code) r m (r .fields) other a e)
+
 -- NOP
-module _ (s : List ℕ) (b : Bool) (row : Row) (a e : ℕ) (t : Lexeme) (r : NextStatement) (h : Stands s e t) where
-  bare-nop : (c : Row) → c ≡ bareRow row → r ≡ rowStep s b (c .op) (fieldsBy (c .count) (c .first) (c .second) (c .third)) 13 (c .base) a e → tokenIs ends s e ≡ true → r ≡ nopStep s b row a e
-  unfolding nopStep if_then_else_
-  bare-nop c p q z = rw z (rw p at q)
+module _ (s : List ℕ) (code i : ℕ) where
+  pub bare-nop : (t : Lexeme) → Stands s i t → code ≡ 22 → (eqb (t .sort) 9 || eqb (t .sort) 10) ≡ isBare s code i
+  unfolding isBare
+  bare-nop t h e = rw (eq-eqb code 22 e) (sym (ends-by-sort s i t h))
 
-  pub nop-line : (c : Row) → c ≡ bareRow row → r ≡ rowStep s b (c .op) (fieldsBy (c .count) (c .first) (c .second) (c .third)) 13 (c .base) a e → t .sort ≡ 9 → r ≡ nopStep s b row a e
-  nop-line c p q z = bare-nop c p q (ends-line s e t h z)
+  pub bare-other : (code ≡ 22 → ⊥) → false ≡ isBare s code i
+  unfolding isBare
+  bare-other n = rw (ne-eqb code 22 n)
 
-  pub nop-end : (c : Row) → c ≡ bareRow row → r ≡ rowStep s b (c .op) (fieldsBy (c .count) (c .first) (c .second) (c .third)) 13 (c .base) a e → (t .sort ≡ 9 → ⊥) → t .sort ≡ 10 → r ≡ nopStep s b row a e
-  nop-end c p q n z = bare-nop c p q (ends-end s e t h n z)
+module _ (code : ℕ) where
+  pub other-nop : code ≡ 22 → 13 ≡ otherOf code
+  unfolding otherOf if_then_else_
+  other-nop e = rw (eq-eqb code 22 e)
 
-  pub nop-other : r ≡ rowStep s b (row .op) (fieldsBy (row .count) (row .first) (row .second) (row .third)) 13 (row .base) a e → (t .sort ≡ 9 → ⊥) → (t .sort ≡ 10 → ⊥) → r ≡ nopStep s b row a e
-  unfolding nopStep if_then_else_
-  nop-other q n z = rw (ends-no s e t h n z) q
+  pub other-any : (code ≡ 22 → ⊥) → 14 ≡ otherOf code
+  unfolding otherOf if_then_else_
+  other-any n = rw (ne-eqb code 22 n)
 
--- AN INSTRUCTION
-module _ (s : List ℕ) (b : Bool) (v a e : ℕ) (c : Row) (r : NextStatement) (l : v < 32) (h : c ≡ rowAt v) where
-  row-is : Means c (getD instructions v noRow)
-  row-is = rw h (instruction-means v l)
+-- the rules' reading of an instruction is that of its row
+pub instr-row : (s : List ℕ) (ls : List Name) (code : ℕ) → code < 32 → (k : Kind) (a e : ℕ) → instrRead s ls (getD instructions code noRow) (tokenIn k (span a e)) ≡ rowRead s ls (getD instructions code noRow) (tokenIn k (span a e)) (if isBare s code e then [] else getD instructions code noRow .fields) (otherOf code)
+unfolding instrRead isBare otherOf if_then_else_
+instr-row s ls code l k a e = rw nop (go (eqb code 22))
+  where
+    nop : getD instructions code noRow .optional ≡ eqb code 22
+    nop = optional-zero code noRow l ∙ (ap (λ (x : ℕ). eqb x 0) (sym (instruction-means code l .base)) ∙ nop-zero code l)
 
-  pub instruction-nop : c .base ≡ 0 → r ≡ nopStep s b c a e → (ls : List Name) (k : Kind) → b ≡ not (eqb (length ls) 0) → r ≡ codedStatement (instrRead s ls (getD instructions v noRow) (tokenIn k (span a e)))
-  unfolding instrRead if_then_else_ nopStep
-  instruction-nop z q ls k y =
-      let w : getD instructions v noRow .optional ≡ true = optional-zero v noRow l ∙ eq-eqb (getD instructions v noRow .base) 0 (sym (row-is .base) ∙ z) in
-      rw w (q ∙ (rw (row-is .fields) (row-coded s ls b y k c (getD instructions v noRow) row-is (if tokenIs ends s e then [] else getD instructions v noRow .fields) 13 a e)))
-
-  pub instruction-other : (c .base ≡ 0 → ⊥) → r ≡ rowStep s b (c .op) (fieldsBy (c .count) (c .first) (c .second) (c .third)) 14 (c .base) a e → (ls : List Name) (k : Kind) → b ≡ not (eqb (length ls) 0) → r ≡ codedStatement (instrRead s ls (getD instructions v noRow) (tokenIn k (span a e)))
-  unfolding instrRead if_then_else_
-  instruction-other z q ls k y =
-      let w : getD instructions v noRow .optional ≡ false = optional-zero v noRow l ∙ ne-eqb (getD instructions v noRow .base) 0 (λ (x : getD instructions v noRow .base ≡ 0). z (row-is .base ∙ x)) in
-      rw w (q ∙ (rw (row-is .fields) (row-coded s ls b y k c (getD instructions v noRow) row-is (getD instructions v noRow .fields) 14 a e)))
+    go : (x : Bool) → (if x then rowRead s ls (getD instructions code noRow) (tokenIn k (span a e)) (if tokenIs ends s e then [] else getD instructions code noRow .fields) 13 else rowRead s ls (getD instructions code noRow) (tokenIn k (span a e)) (getD instructions code noRow .fields) 14) ≡ rowRead s ls (getD instructions code noRow) (tokenIn k (span a e)) (if x && tokenIs ends s e then [] else getD instructions code noRow .fields) (if x then 13 else 14)
+    go true = refl
+    go false = refl

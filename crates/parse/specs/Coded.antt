@@ -1,26 +1,26 @@
 -- The rules' statements as the code tells them. Assumes nothing.
-use Prim.Native.Nat.{ℕ}
-use mathlib.Core.Bool.{Bool, not}
+use Prim.Native.Nat.{ℕ, _+_}
+use mathlib.Core.Bool.{Bool, _&&_, not}
 use mathlib.Core.Path.{_≡_}
-use mathlib.Core.List.{List, []}
+use mathlib.Core.List.{List, map}
 use mathlib.Core.Option.{Option, none, some}
 use lib.Dec.{eqb}
 use lib.ListN.{length}
 use Rattle.rules.specs.Base.{if_then_else_, Outcome, ok, refused, _>>=_}
-use Rattle.rules.specs.Words.{instr, orig, fill, blkw, stringz, end, external, directives, find}
+use Rattle.rules.specs.Words.{instr, orig, fill, blkw, stringz, end, external, directives}
 use Rattle.rules.specs.Words as words
-use Rattle.rules.specs.Tokens.{Token, lexed}
-use Rattle.rules.specs.Statements.{Name, Stmt, Read, need, ends, tokenIs, lineEnd, rowRead, statements}
+use Rattle.rules.specs.Tokens.{upper, lexed}
+use Rattle.rules.specs.Statements.{Stmt, Read, ends, tokenIs, lineEnd, statements}
 use Rattle.lex_token.specs.declared.Lexeme.{Lexeme}
 use Rattle.lex_token.specs.Flat.{faultSort}
+use Rattle.lex_token.specs.Meant.{part}
 use Rattle.parse_field.specs.declared.Given.{Given}
 use Rattle.parse_field.specs.declared.Step.{Step}
 use Rattle.parse_field.specs.declared.Step.the-variants as step
 use Rattle.parse_rows.specs.declared.Op.{Op}
 use Rattle.parse_rows.specs.declared.Op.the-variants.{Instr, Orig, Fill, Blkw, Stringz, External}
 use Rattle.parse_rows.specs.declared.Op.the-variants as op
-use Rattle.parse_rows.specs.declared.Row.{Row}
-use Rattle.parse_rows.specs.Rows.{fieldsBy}
+use Rattle.parse_rows.specs.Rows.{fieldsBy, rowAt, nopRow, codeFrom}
 use Rattle.parse_operands.specs.Lines.{reachOf, labelStart, labelEnd, lineStep}
 use Rattle.parse.specs.declared.Statement.{Statement}
 use Rattle.parse.specs.declared.NextStatement.{NextStatement}
@@ -61,6 +61,12 @@ unfoldable pub codedStatement : Outcome (Option Read) → NextStatement
 codedStatement (ok none) = End
 codedStatement (ok (some r)) = next.Read (codedRead r)
 codedStatement (refused r) = Refused (r .number) (r .first .start) (r .first .stop)
+
+-- where the next statement begins; 0 where none was read
+abbrev pub nextPlace : NextStatement → ℕ
+nextPlace (next.Read r) = r .next
+nextPlace End = 0
+nextPlace (Refused n a e) = 0
 
 -- all statements of a source: accepted, or the first refusal
 unfoldable pub codedStatements : Outcome (List Stmt) → Statements
@@ -114,14 +120,34 @@ after s b o a (step.Refused n i e) = Refused n i e
 unfoldable pub rowStep : List ℕ → (labelled : Bool) → Op → List words.Field → (other word a e : ℕ) → NextStatement
 rowStep s b o fs other w a e = after s b o a (lineStep s fs other w e)
 
--- a row without its operands
-abbrev pub bareRow : Row → Row
-bareRow r = record { op = r .op; base = r .base; count = 0; first = r .first; second = r .second; third = r .third }
+-- how many of a row's operands are read: none where they are left out
+unfoldable pub countDue : ℕ → (bare : Bool) → ℕ
+countDue n bare = if bare then 0 else n
 
--- NOP
-unfoldable pub nopStep : List ℕ → (labelled : Bool) → Row → (a e : ℕ) → NextStatement
-nopStep s b r a e = rowStep s b (r .op) (if tokenIs ends s e then [] else fieldsBy (r .count) (r .first) (r .second) (r .third)) 13 (r .base) a e
+-- the statement of the row at a place of the table
+unfoldable pub codeStep : List ℕ → (labelled : Bool) → (code : ℕ) → (bare : Bool) → (other a e : ℕ) → NextStatement
+codeStep s b code bare other a e =
+    let r = rowAt code in
+    rowStep s b (r .op) (fieldsBy (countDue (r .count) bare) (r .first) (r .second) (r .third)) other (r .base) a e
 
--- the statement of a directive of this name
-unfoldable pub dotRead : List ℕ → List Name → (name : List ℕ) → Token → Outcome (Option Read)
-dotRead s ls w t = need (find w directives) 13 (t .place) (λ r. rowRead s ls r t (r .fields) 14)
+-- NOP's operand may be left out, before a newline or the end of the source
+unfoldable pub isBare : List ℕ → (code i : ℕ) → Bool
+isBare s code i = eqb code nopRow && tokenIs ends s i
+
+-- what a token that is no operand of its field is refused with
+unfoldable pub otherOf : ℕ → ℕ
+otherOf code = if eqb code nopRow then 13 else 14
+
+-- the place in the table of the row that a token begins: a reserved word's code, a directive's place, or how many rows there are
+unfoldable pub codeAt : List ℕ → Lexeme → ℕ
+codeAt s t =
+    if eqb (t .sort) 5 then t .value
+    else if eqb (t .sort) 6 then codeFrom 32 (map upper (part s (t .start + 1) (t .end))) directives
+    else 38
+
+-- what is answered where no row begins
+unfoldable pub headlessAt : (labelled : Bool) → Lexeme → NextStatement
+headlessAt b t =
+    if eqb (t .sort) 3 then Refused 16 (t .start) (t .end)
+    else if eqb (t .sort) 10 then (if b then Refused 13 (t .start) (t .end) else End)
+    else unfitAt t

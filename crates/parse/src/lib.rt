@@ -4,6 +4,7 @@ use base_refusals::BAD_STATEMENT;
 use base_refusals::NAME_TOO_LONG;
 use base_refusals::NON_ASCII;
 use base_refusals::SOURCE_TOO_LONG;
+use base_text::Class;
 use lex::next_lexeme;
 use lex_source::Lexed;
 use lex_token::Lexeme;
@@ -12,19 +13,11 @@ use parse_field::Step;
 use parse_rows::Op;
 use parse_rows::Row;
 ghost use mathlib.Core.Path.{_≡_};
-ghost use mathlib.Core.Bool.{not};
-ghost use mathlib.Core.List.{List, map};
 ghost use Prim.Native.Nat.{_+_, _≤_, _<_};
-ghost use lib.Dec.{eqb};
-ghost use lib.ListN.{length, getD};
-ghost use Rattle.rules.specs.Base.{span};
-ghost use Rattle.rules.specs.Tokens.{Kind, tokenIn, upper};
-ghost use Rattle.rules.specs.Words.{instructions};
-ghost use Rattle.rules.specs.Statements.{Name, instrRead, nextStatement, statements};
+ghost use lib.ListN.{length};
+ghost use Rattle.rules.specs.Statements.{nextStatement, statements};
 ghost use Rattle.lex_token.specs.Meant.{part};
-ghost use Rattle.lex.specs.Sorts.{noRow};
-ghost use Rattle.parse_rows.specs.Rows.{fieldsBy};
-ghost use Rattle.parse.specs.Coded.{made, finished, rowStep, nopStep, bareRow, unfitAt, dotRead, codedStatement, codedStatements, sourceStatements, AllRead};
+ghost use Rattle.parse.specs.Coded.{made, finished, countDue, codeStep, isBare, otherOf, codeAt, unfitAt, headlessAt, codedStatement, nextPlace, codedStatements, sourceStatements, AllRead};
 
 // A statement: whether labels stand before it; what it does; its word or number as far as it is known; the number of values of its label operand's field (0: no label operand) and the
 // label's place; its string's place; its span, from the instruction or directive to the last operand; and where the next statement begins.
@@ -103,11 +96,15 @@ fn read_of(labelled: bool, op: Op, head: Lexeme, g: Given, next: usize) -> NextS
     })
 }
 
-// After the operands a newline or the end of the source.
+// After the operands a newline or the end of the source. A line feed is known by its byte.
 fn line_end(src: &[u8], labelled: bool, op: Op, head: Lexeme, g: Given) -> NextStatement
     ensures { λ r. ⌜ r ≡ finished (now (src .entry)) labelled op (head .start) g ⌝ }
 {
-    let t = next_lexeme(src, g.stop);
+    let stop = base_text::run_end(src, g.stop, Class::Space);
+    if base_text::byte_at(src, stop) == b'\n' {
+        return read_of(labelled, op, head, g, stop + 1);
+    }
+    let t = next_lexeme(src, stop);
     if t.sort == lex_token::NEWLINE {
         return read_of(labelled, op, head, g, t.end);
     }
@@ -117,11 +114,41 @@ fn line_end(src: &[u8], labelled: bool, op: Op, head: Lexeme, g: Given) -> NextS
     unfit(t)
 }
 
-// The statement of a row whose first token this is.
-fn row_read(src: &[u8], labelled: bool, row: Row, t: Lexeme, other: u16) -> NextStatement
-    ensures { λ r. ⌜ r ≡ rowStep (now (src .entry)) labelled (row .op) (fieldsBy (row .count) (row .first) (row .second) (row .third)) other (row .base) (t .start) (t .end) ⌝ }
+// How many of a row's operands are read: none where they are left out.
+fn operands_due(count: u16, bare: bool) -> u16
+    ensures { λ r. ⌜ r ≡ countDue count bare ⌝ }
 {
-    let op = row.op;
+    if bare {
+        return 0;
+    }
+    count
+}
+
+// The statement of the row at a place of the table, whose first token this is. The row goes by its number and is made here: a row that is handed on is copied, which costs more than making it.
+fn row_read(
+    src: &[u8],
+    labelled: bool,
+    code: usize,
+    bare: bool,
+    t: Lexeme,
+    other: u16,
+) -> NextStatement
+    requires { ⌜ code < 38 ⌝ }
+    ensures { λ r. ⌜ r ≡ codeStep (now (src .entry)) labelled code bare other (t .start) (t .end) ⌝ }
+{
+    let full = parse_rows::row_at(code);
+    let op = full.op;
+    let first = full.first;
+    let second = full.second;
+    let third = full.third;
+    let row = Row {
+        op,
+        base: full.base,
+        count: operands_due(full.count, bare),
+        first,
+        second,
+        third,
+    };
     let step = parse_operands::operands_from(src, t.end, row, other);
     match step {
         Step::Took(g) => line_end(src, labelled, op, t, g),
@@ -129,51 +156,25 @@ fn row_read(src: &[u8], labelled: bool, row: Row, t: Lexeme, other: u16) -> Next
     }
 }
 
-// The row without its operands.
-fn without_operands(row: Row) -> Row
-    ensures { λ r. ⌜ r ≡ bareRow row ⌝ }
+// NOP's operand may be left out, before a newline or the end of the source.
+fn is_bare(src: &[u8], code: usize, at: usize) -> bool
+    ensures { λ r. ⌜ r ≡ isBare (now (src .entry)) code at ⌝ }
 {
-    let op = row.op;
-    let first = row.first;
-    let second = row.second;
-    let third = row.third;
-    Row {
-        op,
-        base: row.base,
-        count: 0,
-        first,
-        second,
-        third,
+    if code == parse_rows::NOP {
+        let after = next_lexeme(src, at);
+        return (after.sort == lex_token::NEWLINE) | (after.sort == lex_token::END);
     }
+    false
 }
 
-// NOP's operand may be left out; a wrong token there is 13.
-fn nop_read(src: &[u8], labelled: bool, row: Row, t: Lexeme) -> NextStatement
-    ensures { λ r. ⌜ r ≡ nopStep (now (src .entry)) labelled row (t .start) (t .end) ⌝ }
+// What a token that is no operand of its field is refused with: 13 after NOP, 14 elsewhere.
+fn other_of(code: usize) -> u16
+    ensures { λ r. ⌜ r ≡ otherOf code ⌝ }
 {
-    let after = next_lexeme(src, t.end);
-    if after.sort == lex_token::NEWLINE {
-        return row_read(src, labelled, without_operands(row), t, BAD_STATEMENT);
+    if code == parse_rows::NOP {
+        return BAD_STATEMENT;
     }
-    if after.sort == lex_token::END {
-        return row_read(src, labelled, without_operands(row), t, BAD_STATEMENT);
-    }
-    row_read(src, labelled, row, t, BAD_STATEMENT)
-}
-
-// NOP is the one row whose word with all operands zero is this.
-const NOP: u16 = 0;
-
-// The statement of an instruction, with labels before it or none.
-fn instruction(src: &[u8], labelled: bool, t: Lexeme) -> NextStatement
-    requires { ⌜ t .value < 32 ⌝ }
-    ensures { λ r. ⌜ ((ls : List Name) (k : Kind) → labelled ≡ not (eqb (length ls) 0) → r ≡ codedStatement (instrRead (now (src .entry)) ls (getD instructions (t .value) noRow) (tokenIn k (span (t .start) (t .end))))) ⌝ }
-{
-    let row = parse_rows::row_at(t.value as usize);
-    if row.base == NOP {
-        return nop_read(src, labelled, row, t);
-    }
-    row_read(src, labelled, row, t, BAD_OPERAND)
+    BAD_OPERAND
 }
 
 // A directive's name: the part of the source after the dot.
@@ -193,15 +194,33 @@ fn name_after(src: &[u8], dot: usize, end: usize) -> &[u8]
     &src[start..end]
 }
 
-// The statement of a directive, with labels before it or none; an unknown one is 13.
-fn directive(src: &[u8], labelled: bool, t: Lexeme) -> NextStatement
-    ensures { λ r. ⌜ ((ls : List Name) (k : Kind) → labelled ≡ not (eqb (length ls) 0) → r ≡ codedStatement (dotRead (now (src .entry)) ls (map upper (part (now (src .entry)) (t .start + 1) (t .end))) (tokenIn k (span (t .start) (t .end))))) ⌝ }
+// The place in the table of the row that a token begins: a reserved word's code, a directive's place, or ROWS where there is none.
+fn code_at(src: &[u8], t: Lexeme) -> usize
+    ensures { λ r. ⌜ r ≡ codeAt (now (src .entry)) t ⌝ }
 {
-    let code = parse_rows::directive_code(name_after(src, t.start, t.end));
-    if code < parse_rows::ROWS {
-        return row_read(src, labelled, parse_rows::row_at(code), t, BAD_OPERAND);
+    if t.sort == lex_token::RESERVED {
+        return t.value as usize;
     }
-    refused(BAD_STATEMENT, t)
+    if t.sort == lex_token::DIRECTIVE {
+        return parse_rows::directive_code(name_after(src, t.start, t.end));
+    }
+    parse_rows::ROWS
+}
+
+// What is answered where no row begins: 16 at a name, which is too long, the end where no labels stand before it, and else what a token that does not fit is refused with.
+fn headless(labelled: bool, t: Lexeme) -> NextStatement
+    ensures { λ r. ⌜ r ≡ headlessAt labelled t ⌝ }
+{
+    if t.sort == lex_token::LABEL {
+        return refused(NAME_TOO_LONG, t);
+    }
+    if t.sort == lex_token::END {
+        if labelled {
+            return refused(BAD_STATEMENT, t);
+        }
+        return NextStatement::End;
+    }
+    unfit(t)
 }
 
 // The statement that begins at a place or after it.
@@ -210,22 +229,33 @@ pub fn next_statement(src: &[u8], at: usize) -> NextStatement
 {
     let walk = parse_labels::walk_labels(src, at);
     let t = walk.token;
-    if t.sort == lex_token::RESERVED {
-        return instruction(src, walk.labelled, t);
+    let code = code_at(src, t);
+    if code < parse_rows::ROWS {
+        return row_read(
+            src,
+            walk.labelled,
+            code,
+            is_bare(src, code, t.end),
+            t,
+            other_of(code),
+        );
     }
-    if t.sort == lex_token::DIRECTIVE {
-        return directive(src, walk.labelled, t);
+    headless(walk.labelled, t)
+}
+
+// Where the next statement begins; 0 where none was read.
+pub fn next_place(found: NextStatement) -> usize
+    ensures { λ r. ⌜ r ≡ nextPlace found ⌝ }
+{
+    match found {
+        NextStatement::Read(s) => s.next,
+        NextStatement::End => 0,
+        NextStatement::Refused {
+            number: _,
+            start: _,
+            end: _,
+        } => 0,
     }
-    if t.sort == lex_token::LABEL {
-        return refused(NAME_TOO_LONG, t);
-    }
-    if t.sort == lex_token::END {
-        if walk.labelled {
-            return refused(BAD_STATEMENT, t);
-        }
-        return NextStatement::End;
-    }
-    unfit(t)
 }
 
 // The first refusal of a source's statements, where there is one.

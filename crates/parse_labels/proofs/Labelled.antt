@@ -1,5 +1,5 @@
 -- What the walk over labels keeps. Assumes nothing.
-use Prim.Native.Nat.{ℕ, suc, _-_, _≤_, _<_}
+use Prim.Native.Nat.{ℕ, suc, _+_, _-_, _≤_, _<_}
 use mathlib.Core.Path.{_≡_, refl, sym, _∙_, ap}
 use mathlib.Core.Bool.{Bool, true, false, _&&_, _||_, not}
 use mathlib.Core.List.{List, [], _∷_}
@@ -7,13 +7,20 @@ use mathlib.Core.Option.{Option, none, some}
 use native.Mathlib.Omega.{arith}
 use borrow.Author.Tests.{eq-eqb, ne-eqb, eqb-true, eqb-false}
 use lib.Dec.{eqb}
-use lib.ListN.{length}
+use lib.ListN.{length, getD}
+use Rattle.rules.specs.Base.{if_then_else_}
 use Rattle.rules.specs.Statements.{Name, isMark, nameAt, stopAt, pastLines, pastColon, pastLabel, pastLabels, labelsAt}
 use Rattle.rules.proofs.Ahead.{Ends, token-ends, lines-on, lines-done, labels-on, labels-done, names-on, names-done}
 use Rattle.rules.proofs.Bools.{never}
+use Rattle.base_text.specs.Runs.{runEnd}
+use Rattle.base_text.specs.declared.Class.the-variants as class
+use Rattle.base_text.proofs.RunLaws.{end-ge}
 use Rattle.lex_token.specs.declared.Lexeme.{Lexeme}
+use Rattle.lex_token.specs.Coded.{marked}
+use Rattle.lex_token.specs.Flat.{lexeme}
 use Rattle.lex.specs.Sorts.{kindBy, Stands}
 use Rattle.lex.proofs.Marks.{token-mark, stop-end, line-sort, end-sort}
+use Rattle.lex.proofs.Peek.{stands-from, peek-from, peek-stands, peek-inside}
 use Rattle.parse_labels.specs.declared.Label.the-variants.{At, Nothing}
 use Rattle.parse_labels.specs.Walk.{placed, labelHere, isLabel, isBefore, Walked}
 use Rattle.parse_labels.proofs.Walking.{colon-yes, colon-no, label-is, label-none, label-sort, name-stop}
@@ -117,7 +124,7 @@ and-no : (b : Bool) → (b && false) ≡ false
 and-no true = refl
 and-no false = refl
 
--- A STEP OF THE WALK
+-- A STEP OF THE WALK, over a token
 module _ (s : List ℕ) (at i : ℕ) (seen colon : Bool) (w : Walking s at i seen colon) (t : Lexeme) (h : Stands s i t) where
   not-colon : (t .sort ≡ 7 → ⊥) → onward s colon i ≡ i
   not-colon n = stays s i t h colon (rw (ne-eqb (t .sort) 7 n) (and-no colon))
@@ -167,6 +174,20 @@ module _ (s : List ℕ) (at i : ℕ) (seen colon : Bool) (w : Walking s at i see
         some-yet = w .some-yet;
       }
 
+-- over a line feed, by its byte
+module _ (s : List ℕ) (i p : ℕ) (e : p ≡ runEnd class.Space s i) (c : ℕ) (q : c ≡ getD s p 0) where
+  pub line-less : 0 < c → length s - (p + 1) < length s - i
+  line-less n = omega (arith, peek-inside s p c q n, e, end-ge class.Space s i)
+
+  pub walk-line : (at : ℕ) (seen colon : Bool) → Walking s at i seen colon → c ≡ 10 → Walking s at (p + 1) seen false
+  unfolding marked if_then_else_
+  walk-line at seen colon w x = line-step s at i seen colon w (lexeme 9 0 p (p + 1)) (peek-stands s i p e 10 (sym x ∙ q) refl) refl
+
+-- over a token, looked for behind the spaces
+module _ (s : List ℕ) (at i : ℕ) (seen colon : Bool) (w : Walking s at i seen colon) (p : ℕ) (e : p ≡ runEnd class.Space s i) (t : Lexeme) (k : Stands s p t) where
+  h : Stands s i t
+  h = stands-from s i p t (peek-from s i p e) k
+
   module _ (b : Bool) (q : b ≡ isBefore t colon) where
     -- what a token that is passed is
     by-before : {A : Type 0} → b ≡ true → (isLabel t ≡ true → A) → (isLabel t ≡ false → t .sort ≡ 9 → A) → (isLabel t ≡ false → colon ≡ true → t .sort ≡ 7 → A) → A
@@ -183,9 +204,9 @@ module _ (s : List ℕ) (at i : ℕ) (seen colon : Bool) (w : Walking s at i see
     pub walk-more : (l : Bool) → b ≡ true → l ≡ isLabel t → Walking s at (t .end) (seen || l) l
     walk-more l y e =
         by-before y
-        (λ a. rw (e ∙ a, or-yes seen) (label-step a))
-        (λ a c. rw (e ∙ a, or-no seen) (line-step c))
-        (λ a c d. rw (e ∙ a, or-no seen) (colon-step c d))
+        (λ a. rw (e ∙ a, or-yes seen) (label-step s at i seen colon w t h a))
+        (λ a c. rw (e ∙ a, or-no seen) (line-step s at i seen colon w t h c))
+        (λ a c d. rw (e ∙ a, or-no seen) (colon-step s at i seen colon w t h c d))
 
     moved : b ≡ true → (i < t .end) × (t .end ≤ length s)
     moved y =

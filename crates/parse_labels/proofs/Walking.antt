@@ -1,38 +1,66 @@
 -- Newlines, colons and labels, told by a lexeme's sort. Assumes nothing.
-use Prim.Native.Nat.{ℕ, _-_, _≤_, _<_}
+use Prim.Native.Nat.{ℕ, _+_, _-_, _≤_, _<_}
 use mathlib.Core.Path.{_≡_, refl, sym, _∙_, ap}
-use mathlib.Core.Bool.{Bool, true, false, _&&_}
+use mathlib.Core.Bool.{Bool, true, false, _&&_, _||_}
+use mathlib.Core.Logic.{⊎-elim}
 use mathlib.Core.List.{List}
 use mathlib.Core.Option.{Option, none, some}
 use native.Mathlib.Decide.{decLt, ℕ-discrete}
 use native.Mathlib.Omega.{arith}
 use borrow.Author.Tests.{eq-eqb, ne-eqb, eqb-true, eqb-false, le-leb, lt-leb, leb-true, leb-false}
 use lib.Dec.{eqb, leb}
-use lib.ListN.{length}
+use lib.ListN.{length, getD}
 use Rattle.rules.specs.Base.{if_then_else_, Outcome, ok, refused, Span, span, has}
 use Rattle.rules.specs.Tokens.{Kind, word, Token, tokenIn, nextToken}
 use Rattle.rules.specs.Words.{find, instructions}
 use Rattle.rules.specs.Statements.{Name, isMark, asWord, asLabel, asName, nameAt, tokenIs, stopAt, pastLines, pastColon, pastLabel}
 use Rattle.rules.proofs.Ahead.{lines-on, lines-done, line-ahead, colon-on, colon-done, name-token, name-refused}
 use Rattle.rules.proofs.Bools.{never}
+use Rattle.base_text.specs.Runs.{runEnd}
+use Rattle.base_text.specs.declared.Class.the-variants as class
 use Rattle.lex_token.specs.declared.Lexeme.{Lexeme}
 use Rattle.lex_token.specs.Flat.{faultSort}
 use Rattle.lex.specs.Sorts.{nameOf, kindBy, Stands, NoFault}
 use Rattle.lex.proofs.Marks.{token-mark, stop-end, line-sort, colon-sort, word-sort}
+use Rattle.lex.proofs.Peek.{stands-from, peek-from, peek-is, peek-stop, peek-not}
 use Rattle.parse_labels.specs.declared.Label.{Label}
 use Rattle.parse_labels.specs.declared.Label.the-variants.{At, Nothing}
 use Rattle.parse_labels.specs.declared.NextLabel.the-variants as next
-use Rattle.parse_labels.specs.Walk.{afterLine, placed, labelHere, labelled, labelFrom, isLabel}
+use Rattle.parse_labels.specs.Walk.{afterLine, leadsLine, placed, labelHere, labelled, labelFrom, isLabel}
+
+-- A NEWLINE, by the first byte behind spaces
+module _ (s : List ℕ) (i p : ℕ) (e : p ≡ runEnd class.Space s i) where
+  module _ (t : Lexeme) (k : Stands s p t) where
+    h : Stands s i t
+    h = stands-from s i p t (peek-from s i p e) k
+
+    pub line-yes : t .sort ≡ 9 → t .end ≡ afterLine s i
+    unfolding afterLine if_then_else_
+    line-yes x = rw (token-mark s i t h 10 9 (omega arith) (line-sort s t), eq-eqb _ _ x) (sym (stop-end s i t h (omega arith)))
+
+    pub line-no : (t .sort ≡ 9 → ⊥) → i ≡ afterLine s i
+    unfolding afterLine if_then_else_
+    line-no n = rw (token-mark s i t h 10 9 (omega arith) (line-sort s t), ne-eqb _ _ n)
+
+  pub line-none : (c : ℕ) → c ≡ getD s p 0 → (b : Bool) → b ≡ leadsLine c → b ≡ false → i ≡ afterLine s i
+  unfolding afterLine leadsLine if_then_else_
+  line-none c q b l f = go (eqb c 10) (eqb c 13) (eqb c 59) refl refl refl (sym l ∙ f)
+    where
+      go : (x y z : Bool) → eqb c 10 ≡ x → eqb c 13 ≡ y → eqb c 59 ≡ z → (x || y || z) ≡ false → i ≡ afterLine s i
+      go true y z a1 a2 a3 n = never cc
+      go false true z a1 a2 a3 n = never cc
+      go false false true a1 a2 a3 n = never cc
+      go false false false a1 a2 a3 n = rw (peek-not s i p e c q 10 (omega arith) (eqb-false c 10 a1) (λ z w. ⊎-elim (eqb-false c 13 a2) (eqb-false c 59 a3) w))
+
+-- A COLON: by its byte, and by its token
+module _ (s : List ℕ) (i p : ℕ) (e : p ≡ runEnd class.Space s i) (c : ℕ) (q : c ≡ getD s p 0) where
+  pub colon-here : c ≡ 58 → p + 1 ≡ pastColon s i
+  colon-here x = let y : 58 ≡ getD s p 0 = sym x ∙ q in sym (colon-on s i (peek-is s i p e 58 y refl 58) ∙ peek-stop s i p e 58 y refl)
+
+  pub colon-none : (c ≡ 58 → ⊥) → i ≡ pastColon s i
+  colon-none n = sym (colon-done s i (peek-not s i p e c q 58 (omega arith) n (λ (z : 58 ≡ 10) w. omega arith)))
 
 module _ (s : List ℕ) (i : ℕ) (t : Lexeme) (h : Stands s i t) where
-  pub line-yes : t .sort ≡ 9 → t .end ≡ afterLine s i
-  unfolding afterLine if_then_else_
-  line-yes e = rw (token-mark s i t h 10 9 (omega arith) (line-sort s t), eq-eqb _ _ e) (sym (stop-end s i t h (omega arith)))
-
-  pub line-no : (t .sort ≡ 9 → ⊥) → i ≡ afterLine s i
-  unfolding afterLine if_then_else_
-  line-no n = rw (token-mark s i t h 10 9 (omega arith) (line-sort s t), ne-eqb _ _ n)
-
   pub colon-yes : t .sort ≡ 7 → t .end ≡ pastColon s i
   colon-yes e = sym (stop-end s i t h (omega arith)) ∙ sym (colon-on s i (token-mark s i t h 58 7 (omega arith) (colon-sort s t) ∙ eq-eqb _ _ e))
 

@@ -6,7 +6,7 @@ use mathlib.Core.Option.{Option, none, some}
 use mathlib.Core.Path.{_≡_}
 use lib.Dec.{eqb, leb}
 use lib.ListN.{length}
-use Rattle.rules.specs.Base.{if_then_else_}
+use Rattle.rules.specs.Base.{if_then_else_, is}
 use Rattle.rules.specs.Statements.{Name, isMark, tokenIs, stopAt, pastLines, pastLabel, pastLabels, nameAt, labelsAt}
 use Rattle.lex_token.specs.declared.Lexeme.{Lexeme}
 use Rattle.lex.specs.Sorts.{Stands}
@@ -19,6 +19,10 @@ use Rattle.parse_labels.specs.declared.Walk.{Walk}
 -- past a newline, where one stands
 unfoldable pub afterLine : List ℕ → ℕ → ℕ
 afterLine s i = if tokenIs (isMark 10) s i then stopAt s i else i
+
+-- a byte that a newline may begin with, or a comment before it: LF, CR, semicolon
+unfoldable pub leadsLine : ℕ → Bool
+leadsLine c = is "\n" c || is "\r" c || is ";" c
 
 -- a label token by its place
 unfoldable pub placed : Option Name → Label

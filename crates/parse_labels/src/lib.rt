@@ -1,10 +1,11 @@
 // What stands before a statement's instruction or directive: newlines, and labels each with an optional colon.
+use base_text::Class;
 use lex::next_lexeme;
 use lex_token::Lexeme;
 ghost use mathlib.Core.Path.{_≡_};
 ghost use Prim.Native.Nat.{_-_};
 ghost use Rattle.rules.specs.Statements.{pastColon, pastLines};
-ghost use Rattle.parse_labels.specs.Walk.{afterLine, labelHere, labelFrom, isLabel, isBefore, Walked};
+ghost use Rattle.parse_labels.specs.Walk.{afterLine, leadsLine, labelHere, labelFrom, isLabel, isBefore, Walked};
 
 // A label token of at most 64 bytes, or none.
 pub enum Label {
@@ -28,24 +29,35 @@ pub struct Walk {
     pub labelled: bool,
 }
 
-// Past a newline, where one stands.
+// A byte that a newline may begin with, or a comment before it.
+fn leads_line(b: u8) -> bool
+    ensures { λ r. ⌜ r ≡ leadsLine b ⌝ }
+{
+    (b == b'\n') | (b == b'\r') | (b == b';')
+}
+
+// Past a newline, where one stands. A token is looked for only where its first byte leads to one.
 fn after_line(src: &[u8], at: usize) -> usize
     ensures { λ r. ⌜ r ≡ afterLine (now (src .entry)) at ⌝ }
 {
-    let t = next_lexeme(src, at);
-    if t.sort == lex_token::NEWLINE {
-        return t.end;
+    let start = base_text::run_end(src, at, Class::Space);
+    if leads_line(base_text::byte_at(src, start)) {
+        let t = next_lexeme(src, start);
+        if t.sort == lex_token::NEWLINE {
+            return t.end;
+        }
+        return at;
     }
     at
 }
 
-// Past an optional colon.
+// Past an optional colon, which is known by its byte.
 fn past_colon(src: &[u8], at: usize) -> usize
     ensures { λ r. ⌜ r ≡ pastColon (now (src .entry)) at ⌝ }
 {
-    let t = next_lexeme(src, at);
-    if t.sort == lex_token::COLON {
-        return t.end;
+    let colon = base_text::run_end(src, at, Class::Space);
+    if base_text::byte_at(src, colon) == b':' {
+        return colon + 1;
     }
     at
 }
@@ -118,7 +130,7 @@ fn is_before(t: Lexeme, colon: bool) -> bool
     is_label(t) | (t.sort == lex_token::NEWLINE) | (colon & (t.sort == lex_token::COLON))
 }
 
-// The walk over the labels from a place on. Each token is read once; a colon may stand directly after a label and nowhere else.
+// The walk over the labels from a place on. Each token is read once, and a line feed is known by its byte; a colon may stand directly after a label and nowhere else.
 pub fn walk_labels(src: &[u8], at: usize) -> Walk
     ensures { λ r. ⌜ Walked (now (src .entry)) at r ⌝ }
 {
@@ -126,7 +138,13 @@ pub fn walk_labels(src: &[u8], at: usize) -> Walk
     let mut labelled = false;
     let mut colon = false;
     loop {
-        let token = next_lexeme(src, i);
+        let start = base_text::run_end(src, i, Class::Space);
+        if base_text::byte_at(src, start) == b'\n' {
+            colon = false;
+            i = start + 1;
+            continue;
+        }
+        let token = next_lexeme(src, start);
         if is_before(token, colon) {
             colon = is_label(token);
             labelled = labelled | colon;

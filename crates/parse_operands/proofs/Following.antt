@@ -1,22 +1,25 @@
 -- Operands after operands: the code's reading is the rules'. Assumes nothing.
 use Prim.Native.Nat.{ℕ, zero, suc, _+_, _*_, _≤_, _<_}
 use mathlib.Core.Path.{_≡_, refl, sym, _∙_, ap}
+use mathlib.Core.Bool.{false}
 use mathlib.Core.List.{List, [], _∷_}
 use native.Mathlib.Numerals.{add-one}
 use native.Mathlib.Omega.{arith}
 use borrow.Author.Tests.{eq-eqb, ne-eqb}
-use lib.Dec.{eqb}
-use lib.ListN.{length, drop, drop-of-length-le}
-use Rattle.rules.specs.Base.{if_then_else_, Outcome, ok, refused, refuse, require, _>>=_, span}
-use Rattle.rules.specs.Tokens.{Token, nextToken}
+use lib.ListN.{length, getD, drop, drop-of-length-le}
+use Rattle.rules.specs.Base.{if_then_else_, Outcome, ok, refused, refuse, _>>=_, span}
+use Rattle.rules.specs.Tokens.{Token, tokenIn, nextToken}
 use Rattle.rules.specs.Words.{Field}
-use Rattle.rules.specs.Statements.{Piece, bits, target, chars, operand, add, bare, commaAt, operandAt, moreFrom, operandsFrom}
+use Rattle.rules.specs.Statements.{Piece, bits, target, chars, isMark, operand, add, bare, commaAt, operandAt, moreFrom, operandsFrom}
 use Rattle.rules.specs.Statements as rules
+use Rattle.rules.proofs.Ahead.{is-token}
 use Rattle.rules.proofs.Bools.{never}
+use Rattle.base_text.specs.Runs.{runEnd}
+use Rattle.base_text.specs.declared.Class.the-variants as class
 use Rattle.lex_token.specs.declared.Lexeme.{Lexeme}
 use Rattle.lex_token.specs.Flat.{faultSort}
-use Rattle.lex.specs.Sorts.{Stands, NoFault}
-use Rattle.lex.proofs.Marks.{comma-sort}
+use Rattle.lex.specs.Sorts.{kindBy, Stands}
+use Rattle.lex.proofs.Peek.{peek-from, peek, peek-not}
 use Rattle.parse_field.specs.declared.Field as code
 use Rattle.parse_field.specs.declared.Given.{Given}
 use Rattle.parse_field.specs.declared.Step.{Step}
@@ -39,29 +42,27 @@ module _ (s : List ℕ) (k i : ℕ) where
     unfolding dueAt if_then_else_
     due-comma = rw (ne-eqb k 0 n)
 
-    module _ (t : Lexeme) (h : Stands s i t) where
-      comma-token : NoFault t → commaAt s i ≡ (require (eqb (t .sort) 8) 13 (span (t .start) (t .end)) >>= λ x. ok (t .end))
-      unfolding commaAt
-      comma-token l = rw (h .token l, commaAt, comma-sort s t (t .sort) l)
-
-      pub due-behind : t .sort ≡ 8 → At (t .end) ≡ codedDue (dueAt s k i)
-      unfolding codedDue
-      due-behind e =
-          let q : commaAt s i ≡ ok (t .end) = comma-token (omega arith) ∙ rw (eq-eqb (t .sort) 8 e) in
-          sym (ap codedDue (due-comma ∙ q))
-
-      pub due-bad : t .sort ≡ faultSort → due.Refused (t .value) (t .start) (t .end) ≡ codedDue (dueAt s k i)
-      unfolding codedDue commaAt
-      due-bad e =
-          let q : commaAt s i ≡ refuse (t .value) (span (t .start) (t .end)) = rw (h .bad (omega arith), commaAt) in
-          sym (ap codedDue (due-comma ∙ q))
-
-      pub due-other : (t .sort ≡ 8 → ⊥) → (t .sort ≡ faultSort → ⊥) → due.Refused 13 (t .start) (t .end) ≡ codedDue (dueAt s k i)
-      unfolding codedDue
-      due-other p q =
-          let l : NoFault t = omega (arith, h .known) in
-          let y : commaAt s i ≡ refuse 13 (span (t .start) (t .end)) = comma-token l ∙ rw (ne-eqb (t .sort) 8 p) in
+    module _ (p : ℕ) (e : p ≡ runEnd class.Space s i) (c : ℕ) (q : c ≡ getD s p 0) where
+      pub due-behind : c ≡ 44 → At (p + 1) ≡ codedDue (dueAt s k i)
+      unfolding codedDue commaAt isMark
+      due-behind x =
+          let y : commaAt s i ≡ ok (p + 1) = rw (peek s i p e 44 (sym x ∙ q) refl, commaAt) in
           sym (ap codedDue (due-comma ∙ y))
+
+      module _ (x : c ≡ 44 → ⊥) (t : Lexeme) (h : Stands s p t) where
+        pub due-bad : t .sort ≡ faultSort → due.Refused (t .value) (t .start) (t .end) ≡ codedDue (dueAt s k i)
+        unfolding codedDue commaAt
+        due-bad z =
+            let y : commaAt s i ≡ refuse (t .value) (span (t .start) (t .end)) = rw (peek-from s i p e ∙ h .bad (omega arith), commaAt) in
+            sym (ap codedDue (due-comma ∙ y))
+
+        pub due-other : (t .sort ≡ faultSort → ⊥) → due.Refused 13 (t .start) (t .end) ≡ codedDue (dueAt s k i)
+        unfolding codedDue commaAt
+        due-other z =
+            let o : nextToken s i ≡ ok (tokenIn (kindBy s (t .sort) t) (span (t .start) (t .end))) = peek-from s i p e ∙ h .token (omega (arith, h .known)) in
+            let n : isMark 44 (kindBy s (t .sort) t) ≡ false = sym (is-token (isMark 44) s i _ o) ∙ peek-not s i p e c q 44 (omega arith) x (λ (b : 44 ≡ 10). absurd (omega arith)) in
+            let y : commaAt s i ≡ refuse 13 (span (t .start) (t .end)) = rw (o, commaAt, n) in
+            sym (ap codedDue (due-comma ∙ y))
 
 module _ (s : List ℕ) (k : ℕ) (g : Given) (f : Field) (other : ℕ) (r : Step) where
   pub next-at : (d : Due) → d ≡ codedDue (dueAt s k (g .stop)) → (i : ℕ) → d ≡ At i → Adds g r (operandStep s f other g i) → Adds g r (nextStep s k f other g)

@@ -1,4 +1,5 @@
 // A statement's operands, one after another with commas between them.
+use base_text::Class;
 use lex::next_lexeme;
 use parse_field::Field;
 use parse_field::Given;
@@ -21,17 +22,18 @@ pub enum Due {
     },
 }
 
-// Where operand k is due, behind operands that end at a place: the first stands there, any other behind a comma.
+// Where operand k is due, behind operands that end at a place: the first stands there, any other behind a comma. A comma is known by its byte.
 fn operand_place(src: &[u8], k: u16, stop: usize) -> Due
     ensures { λ r. ⌜ r ≡ codedDue (dueAt (now (src .entry)) k stop) ⌝ }
 {
     if k == 0 {
         return Due::At(stop);
     }
-    let t = next_lexeme(src, stop);
-    if t.sort == lex_token::COMMA {
-        return Due::At(t.end);
+    let comma = base_text::run_end(src, stop, Class::Space);
+    if base_text::byte_at(src, comma) == b',' {
+        return Due::At(comma + 1);
     }
+    let t = next_lexeme(src, comma);
     let start = t.start;
     let end = t.end;
     if t.sort == lex_token::FAULT {

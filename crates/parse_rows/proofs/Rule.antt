@@ -1,16 +1,20 @@
 -- Each row of the table means the rules' row: the computed test, and what a search by name finds. Assumes nothing.
-use Prim.Native.Nat.{ℕ, zero, suc, _+_, _-_, _≤_, _<_}
+use Prim.Native.Nat.{ℕ, zero, suc, _+_, _≤_, _<_}
 use mathlib.Core.Path.{_≡_, refl, ap}
 use mathlib.Core.Bool.{Bool, true, false}
 use mathlib.Core.List.{List, [], _∷_, map}
 use mathlib.Core.Option.{none, some}
 use native.Mathlib.Nat.{not-suc-le-zero, le-of-suc-le-suc}
 use native.Mathlib.Omega.{arith}
+use lib.Dec.{eqb}
 use lib.ListN.{length, getD}
 use Rattle.rules.specs.Base.{if_then_else_, same}
 use Rattle.rules.specs.Words.{Op, Field, Row, instructions, directives, find}
+use Rattle.rules.proofs.Run.{inRun}
+use Rattle.rules.proofs.Bools.{either}
 use Rattle.lex.specs.Sorts.{noRow}
-use Rattle.parse_rows.specs.Rows.{table, cells, fieldAt, opAt, opOf, fieldsBy, rowAt, Means, codeFrom}
+use Rattle.lex.proofs.Marks.{alike, alike-eq}
+use Rattle.parse_rows.specs.Rows.{table, cells, fieldAt, opAt, opOf, fieldsBy, rowAt, nopRow, Means, codeFrom}
 
 -- the rows from j on mean these
 abbrev MeansFrom : ℕ → List Row → Type 0
@@ -53,6 +57,17 @@ means-at (suc i) j (r ∷ rs) m h = let z : j + suc i ≡ j + 1 + i = omega arit
 pub instruction-means : (i : ℕ) → i < 32 → Means (rowAt i) (getD instructions i noRow)
 unfolding instructions
 instruction-means i h = let z : 0 + i ≡ i = omega arith in rw z at (means-at i 0 instructions each-instruction h)
+
+-- NOP is the one instruction whose word is 0
+pub nop-zero : (i : ℕ) → i < 32 → eqb (rowAt i .base) 0 ≡ eqb i nopRow
+unfolding table cells rowAt alike
+nop-zero i h = alike-eq (eqb (rowAt i .base) 0) (eqb i nopRow) (inRun (λ j. alike (eqb (rowAt j .base) 0) (eqb j nopRow)) 0 32 tt i (omega arith) (omega arith))
+
+-- a place is counted from the first
+pub code-ge : (j : ℕ) (w : List ℕ) (rs : List Row) → j ≤ codeFrom j w rs
+unfolding codeFrom
+code-ge j w [] = omega arith
+code-ge j w (r ∷ rs) = either (λ k. j ≤ k) (same w (r .key)) (omega arith) (omega (arith, code-ge (j + 1) w rs))
 
 -- what the search by name finds
 pub record Found (w : List ℕ) (k : ℕ) (rs : List Row) : Type 0 where

@@ -103,6 +103,10 @@ rowAt i = record {
   third = fieldAt (getD (cells i) 4 0);
 }
 
+-- the place of NOP, the one instruction whose operand may be left out
+abbrev pub nopRow : ℕ
+nopRow = 22
+
 -- WHAT A ROW MEANS
 
 abbrev pub opOf : Op → words.Op

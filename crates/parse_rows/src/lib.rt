@@ -33,6 +33,9 @@ pub struct Row {
 // How many instructions there are: their rows stand at the places of their codes.
 const INSTRUCTIONS: usize = 32;
 
+// The place of NOP, the one instruction whose operand may be left out.
+pub const NOP: usize = 22;
+
 // The places of the directives, behind the instructions, and how many rows there are.
 const ORIG: usize = INSTRUCTIONS;
 
@@ -76,7 +79,7 @@ fn instruction_digits(i: usize) -> u32
         19 => 0xb000_2040, // STI
         20 => 0x7000_3013, // STR
         21 => 0xf000_1600, // TRAP
-        22 => 0x0000_1400, // NOP
+        NOP => 0x0000_1400, // NOP
         23 => 0xc1c0_0000, // RET
         24 => 0x8000_0000, // RTI
         25 => 0xf020_0000, // GETC

@@ -1,17 +1,13 @@
 -- `parse::line_end` meets its contract. Assumes nothing.
-use Rattle.parse.proofs.Reading.{finish-line, finish-end, finish-no}
+use native.Mathlib.Omega.{arith}
+use Rattle.lex.proofs.Peek.{peek-inside}
+use Rattle.parse.proofs.Reading.{finish-feed, finish-line, finish-end, finish-no}
 use borrow.Author.Needs.{needs}
 use Rattle.parse.proofs.line_end.Statement.{statement}
 use Rattle.parse.proofs.line_end.Tie as tie
 
-returns : tie.Need-returns
-returns c = search (needs, finish-line)
-
-returns-2 : tie.Need-returns-2
-returns-2 c = search (needs, finish-end)
-
-returns-3 : tie.Need-returns-3
-returns-3 c = search (needs, finish-no)
+add-read-of : tie.Need-add-read-of
+add-read-of c = omega (arith, peek-inside (c .before .before .before .before .args .src .now) (c .before .before .run-end .result) _ (c .before .byte-at .ensures) (omega arith))
 
 pub line-end-spec : {M : Type 1} → statement M
 line-end-spec =
@@ -19,8 +15,13 @@ line-end-spec =
     (tie.spec
     (λ c κs. search needs)
     (λ c κs. search needs)
-    returns
+    add-read-of
     (λ c κs. search needs)
-    returns-2
+    (λ c. search (needs, finish-feed))
     (λ c κs. search needs)
-    returns-3)
+    (λ c κs. search needs)
+    (λ c. search (needs, finish-line))
+    (λ c κs. search needs)
+    (λ c. search (needs, finish-end))
+    (λ c κs. search needs)
+    (λ c. search (needs, finish-no)))
