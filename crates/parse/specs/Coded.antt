@@ -62,12 +62,6 @@ codedStatement (ok none) = End
 codedStatement (ok (some r)) = next.Read (codedRead r)
 codedStatement (refused r) = Refused (r .number) (r .first .start) (r .first .stop)
 
--- where the next statement begins; 0 where none was read
-abbrev pub nextPlace : NextStatement → ℕ
-nextPlace (next.Read r) = r .next
-nextPlace End = 0
-nextPlace (Refused n a e) = 0
-
 -- all statements of a source: accepted, or the first refusal
 unfoldable pub codedStatements : Outcome (List Stmt) → Statements
 codedStatements (ok ss) = Accepted

@@ -17,7 +17,7 @@ ghost use Prim.Native.Nat.{_+_, _≤_, _<_};
 ghost use lib.ListN.{length};
 ghost use Rattle.rules.specs.Statements.{nextStatement, statements};
 ghost use Rattle.lex_token.specs.Meant.{part};
-ghost use Rattle.parse.specs.Coded.{made, finished, countDue, codeStep, isBare, otherOf, codeAt, unfitAt, headlessAt, codedStatement, nextPlace, codedStatements, sourceStatements, AllRead};
+ghost use Rattle.parse.specs.Coded.{made, finished, countDue, codeStep, isBare, otherOf, codeAt, unfitAt, headlessAt, codedStatement, codedStatements, sourceStatements, AllRead};
 
 // A statement: whether labels stand before it; what it does; its word or number as far as it is known; the number of values of its label operand's field (0: no label operand) and the
 // label's place; its string's place; its span, from the instruction or directive to the last operand; and where the next statement begins.
@@ -241,21 +241,6 @@ pub fn next_statement(src: &[u8], at: usize) -> NextStatement
         );
     }
     headless(walk.labelled, t)
-}
-
-// Where the next statement begins; 0 where none was read.
-pub fn next_place(found: NextStatement) -> usize
-    ensures { λ r. ⌜ r ≡ nextPlace found ⌝ }
-{
-    match found {
-        NextStatement::Read(s) => s.next,
-        NextStatement::End => 0,
-        NextStatement::Refused {
-            number: _,
-            start: _,
-            end: _,
-        } => 0,
-    }
 }
 
 // The first refusal of a source's statements, where there is one.
