@@ -9,7 +9,7 @@
    counts, which each function below names. After a refusal the counts are 0 and every buffer that is written is all zero; after acceptance
    what is not used of it is zero. Later editions may answer with more counts behind these: lend LC3_ANSWER_ROOM numbers, and they have room.
 
-   Stack: lend a thread 64 KB. As measured on aarch64 (docs/FIGURES.md), lc3_assemble takes most, some 35 KB, for the tables of its first pass;
+   Stack: lend a thread 64 KB. As measured (docs/FIGURES.md), lc3_assemble takes most, some 43 KB, for the tables of its first pass;
    lc3_link some 17 KB, lc3_check and lc3_load some 9 KB, the others about 1 KB. No call takes memory from a heap. */
 #ifndef LC3_H
 #define LC3_H

@@ -55,6 +55,9 @@ module _ (b : Buffers) (s rs qs : List ℕ) (small : Bool) (room : ℕ) (i : sma
       let q : called b s ≡ refuse2 n (span a c) (span d f) = called-is ∙ h .stopped n a c d f e in
       rw q l
 
--- an array of 4,096 zeros holds a table of pass one
-pub table-long : 4096 ≤ length (zeros 4096)
-table-long = rw (length-replicate {A = ℕ} 4096 0) (omega arith)
+-- an array of so many zeros holds the table of symbols, and that of relocations
+pub symbols-long : 6144 ≤ length (zeros 6144)
+symbols-long = rw (length-replicate {A = ℕ} 6144 0) (omega arith)
+
+pub relocations-long : 4096 ≤ length (zeros 4096)
+relocations-long = rw (length-replicate {A = ℕ} 4096 0) (omega arith)

@@ -77,7 +77,7 @@ fn second_half(
 
 // Any source to an object in lent buffers: 42, 11, 12, the lexer's refusals, those of statements, pass one, 41, pass two.
 // An accepted source is walked twice, once a pass: pass one reads every statement, so that its going to the end leaves only 12 of what goes before it.
-// The tables of pass one grow in arrays of their own, 16,384 bytes each.
+// The tables of pass one grow in arrays of their own: that of symbols with its keys in 24,576 bytes, that of relocations in 16,384.
 pub fn assemble(
     src: &[u8],
     blocks: &mut [u16],
@@ -91,7 +91,7 @@ pub fn assemble(
 {
     let small = object::is_short(blocks, words, marks, labels, relocations, names);
     let room = object::lent_words(words, marks);
-    let mut rows = [0u32; base_capacities::PASS1_CELLS];
+    let mut rows = [0u32; pass1_symbols::SYMBOL_CELLS];
     let mut pending = [0u32; base_capacities::PASS1_CELLS];
     match asm_first_half::first_half(src, small, room, &mut rows, &mut pending) {
         Pass1Step::Went(o) => second_half(

@@ -21,7 +21,7 @@ fn after_check(check: Statements, answer: Pass1Step) -> Pass1Step
 // 11 is tested first, then pass one is tried. Where it goes to the end it has read every statement, and with them every token, so that only 12 can go before;
 // where it stops, at a refusal of its own or of a statement, the whole source is looked through for a refusal that goes before.
 fn source_tables(src: &[u8], labels: &mut [u32], relocations: &mut [u32]) -> Pass1Step
-    requires { ⌜ (4096 ≤ length (now labels)) × (4096 ≤ length (now relocations)) ⌝ }
+    requires { ⌜ (6144 ≤ length (now labels)) × (4096 ≤ length (now relocations)) ⌝ }
     ensures { λ r. ⌜ Tabled (now (labels .exit)) (now (relocations .exit)) (now (src .entry)) r ⌝ }
 {
     if base_capacities::SOURCE_BYTES < src.len() {
@@ -48,7 +48,7 @@ pub fn first_half(
     rows: &mut [u32],
     pending: &mut [u32],
 ) -> Pass1Step
-    requires { ⌜ (4096 ≤ length (now rows)) × (4096 ≤ length (now pending)) ⌝ }
+    requires { ⌜ (6144 ≤ length (now rows)) × (4096 ≤ length (now pending)) ⌝ }
     ensures { λ r. ⌜ Started small room (now (rows .exit)) (now (pending .exit)) (now (src .entry)) r ⌝ }
 {
     if small {

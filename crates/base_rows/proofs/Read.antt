@@ -30,3 +30,12 @@ module _ (t : List ℕ) (n k : ℕ) (vs : List ℕ) (h : k ≤ n) (r : n + lengt
       ∙ (getD-append-add (take k t ++ vs) (take (n - k) (drop k t) ++ drop (n + length vs) t) j 0
       ∙ (List·getD-append (take (n - k) (drop k t)) (drop (n + length vs) t) 0 j (omega (arith, length-take (n - k) (drop k t), length-drop k t))
       ∙ (getD-take (n - k) (drop k t) j 0 (omega arith) ∙ getD-drop k t j 0)))
+
+  -- what is not in use stays
+  pub get-past : (j : ℕ) → getD (inserted t n k vs) (n + length vs + j) 0 ≡ getD t (n + length vs + j) 0
+  get-past j =
+      let moved : length (take (n - k) (drop k t)) ≡ n - k = length-take-le (n - k) (drop k t) (omega (arith, length-drop k t)) in
+      let e : n + length vs + j ≡ length (take k t ++ vs) + (length (take (n - k) (drop k t)) + j) = omega (arith, front) in
+      ap (λ (x : ℕ). getD (inserted t n k vs) x 0) e
+      ∙ (getD-append-add (take k t ++ vs) (take (n - k) (drop k t) ++ drop (n + length vs) t) (length (take (n - k) (drop k t)) + j) 0
+      ∙ (getD-append-add (take (n - k) (drop k t)) (drop (n + length vs) t) j 0 ∙ getD-drop (n + length vs) t j 0))

@@ -70,3 +70,8 @@ four-filled g t n k a f s l e h r =
     let e2 : k + 2 ≡ suc (suc k) = omega arith in
     let e3 : k + 3 ≡ suc (suc (suc k)) = omega arith in
     rw (e1, e2, e3) (ap (λ (x : List ℕ). sets x k (a ∷ f ∷ s ∷ l ∷ [])) e ∙ gap-filled t n k (a ∷ f ∷ s ∷ l ∷ []) h r)
+
+pub two-filled : (g t : List ℕ) (n k a b : ℕ) → g ≡ gapped t n 2 k → k ≤ n → n + 2 ≤ length t → set (set g k a) (k + 1) b ≡ inserted t n k (a ∷ b ∷ [])
+two-filled g t n k a b e h r =
+    let e1 : k + 1 ≡ suc k = omega arith in
+    rw e1 (ap (λ (x : List ℕ). sets x k (a ∷ b ∷ [])) e ∙ gap-filled t n k (a ∷ b ∷ []) h r)

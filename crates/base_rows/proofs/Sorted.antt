@@ -120,8 +120,14 @@ module _ {K U : Type 0} (O : Order K) (g : U → U → U) (F : ℕ → ℕ → �
     c3 = at-after k h m 3 (omega arith);
   }
 
-  new-row : rowAt F rs′ p ≡ F a f s l
-  new-row =
+  pub row-before : (k : ℕ) → k < p → rowAt F rs′ k ≡ rowAt F rs k
+  row-before k h = moved-row F rs′ rs k k (moved-before k h)
+
+  pub row-after : (k : ℕ) → p ≤ k → k < n → rowAt F rs′ (suc k) ≡ rowAt F rs k
+  row-after k h m = moved-row F rs′ rs (suc k) k (moved-after k h m)
+
+  pub row-new : rowAt F rs′ p ≡ F a f s l
+  row-new =
       let c0 : getD rs′ (p * 4) 0 ≡ a = sym (zero-cell rs′ p) ∙ at-new 0 (omega arith) in
       let c1 : getD rs′ (p * 4 + 1) 0 ≡ f = at-new 1 (omega arith) in
       let c2 : getD rs′ (p * 4 + 2) 0 ≡ s = at-new 2 (omega arith) in
@@ -134,10 +140,10 @@ module _ {K U : Type 0} (O : Order K) (g : U → U → U) (F : ℕ → ℕ → �
       let q : n + 1 ≡ p + suc (n - p) = omega (arith, v .within) in
       ap (λ (x : ℕ). tab x (rowAt F rs′)) q
       ∙ (tab-split p (suc (n - p)) (rowAt F rs′)
-      ∙ (let x = tab-ext p (rowAt F rs′) (rowAt F rs) (λ k h. moved-row F rs′ rs k k (moved-before k h)) in
-      let y = ap (rowAt F rs′) (let w : p + 0 ≡ p = omega arith in w) ∙ new-row in
+      ∙ (let x = tab-ext p (rowAt F rs′) (rowAt F rs) row-before in
+      let y = ap (rowAt F rs′) (let w : p + 0 ≡ p = omega arith in w) ∙ row-new in
       let z = tab-ext (n - p) (λ i. rowAt F rs′ (p + suc i)) (λ i. rowAt F rs (p + i))
-      (λ i h. ap (rowAt F rs′) (let w : p + suc i ≡ suc (p + i) = omega arith in w) ∙ moved-row F rs′ rs (suc (p + i)) (p + i) (moved-after (p + i) (omega arith) (omega arith))) in
+      (λ i h. ap (rowAt F rs′) (let w : p + suc i ≡ suc (p + i) = omega arith in w) ∙ row-after (p + i) (omega arith) (omega arith)) in
       λ i. x i ++ (y i ∷ z i)))
 
   table-old : tab n (rowAt F rs) ≡ tab p (rowAt F rs) ++ tab (n - p) (λ i. rowAt F rs (p + i))

@@ -30,3 +30,14 @@ pub fn insert_four(t: &mut [u32], n: usize, p: usize, a: u32, b: u32, c: u32, d:
     t[i + 2] = c;
     t[i + 3] = d;
 }
+
+// The row (a, b) at row p of n rows of two that begin at `first`.
+pub fn insert_two(t: &mut [u32], first: usize, n: usize, p: usize, a: u32, b: u32)
+    requires { ⌜ (p ≤ n) × (first + n * 2 + 2 ≤ length (now t)) ⌝ }
+    ensures { λ _. ⌜ now (t .exit) ≡ inserted (now (t .entry)) (first + n * 2) (first + p * 2) (a ∷ b ∷ []) ⌝ }
+{
+    let i = first + p * 2;
+    gap(t, first + n * 2, i, 2);
+    t[i] = a;
+    t[i + 1] = b;
+}

@@ -70,13 +70,12 @@ pub record Going (rs₀ qs₀ rs qs src : List ℕ) (at : ℕ) (o : code.Pass1St
   pub left : (ss : List Stmt) → statements src ≡ ok ss → Left rs qs src at o ss
   pub back : (rest : List Stmt) → statementsAt src at ≡ ok rest → AllRead src
 
-module _ (rs qs src : List ℕ) (size : length src ≤ 262144) (room : 4096 ≤ length rs) (room2 : 4096 ≤ length qs) where
+module _ (rs qs src : List ℕ) (size : length src ≤ 262144) (room : 6144 ≤ length rs) (room2 : 4096 ≤ length qs) where
   held-none : Held rs qs src fresh
   held-none = record {
     lent = record {
       steady = record { rising = omega arith; address = omega arith; few = omega arith; sum = omega arith };
-      table = record { few = omega arith; room = omega arith; rows = λ k l. absurd (omega arith); up = record { next = λ k l. absurd (omega arith) } };
-      room = room;
+      table = record { few = omega arith; room = room; rows = λ k l. absurd (omega arith); up = record { next = λ k l. absurd (omega arith) }; keys = λ k l. absurd (omega arith) };
       size = size;
     };
     table = record { few = omega arith; room = omega arith; rows = λ k l. absurd (omega arith); up = record { next = λ k l. absurd (omega arith) } };

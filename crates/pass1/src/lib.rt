@@ -124,7 +124,7 @@ fn finish(o: Pass1State) -> Pass1Step
 
 // Pass one of a source, into lent tables, whatever stood there.
 pub fn pass_one(src: &[u8], labels: &mut [u32], relocations: &mut [u32]) -> Pass1Step
-    requires { ⌜ (length (now src) ≤ 262144) × (4096 ≤ length (now labels)) × (4096 ≤ length (now relocations)) ⌝ }
+    requires { ⌜ (length (now src) ≤ 262144) × (6144 ≤ length (now labels)) × (4096 ≤ length (now relocations)) ⌝ }
     ensures { λ r. ⌜ PassedOne (now (labels .exit)) (now (relocations .exit)) (now (src .entry)) r ⌝ }
 {
     let mut at = 0;

@@ -38,7 +38,7 @@ module _ (rs qs src : List ℕ) (o : code.Pass1State) (h : Held rs qs src o) whe
   over-none f r k = record {
     rule = k .rule (λ n. symbols n rs src) (λ n. notes n qs src);
     kept = λ o′ q. (let w = k .kept o′ q in record {
-      lent = record { steady = w .steady; table = rw (w .labels) (h .lent .table); room = h .lent .room; size = h .lent .size };
+      lent = record { steady = w .steady; table = rw (w .labels) (h .lent .table); size = h .lent .size };
       table = rw (w .relocations) (h .table);
       room = h .room;
     });

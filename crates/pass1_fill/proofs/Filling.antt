@@ -105,7 +105,7 @@ module _ (o : code.Pass1State) (a e : ℕ) (z : Noted) where
 -- AN EXTERNAL
 module _ (rs src : List ℕ) (n : ℕ) (m : objects.Name) (g : Growing rs src n) (r : Row) (h : Found n rs src m r) where
   pub row-in : (k : ℕ) → r ≡ At k → k * 4 + 4 ≤ length rs
-  row-in k q = omega (arith, g .room, h .row k q .0)
+  row-in k q = omega (arith, g .few, g .room, h .row k q .0)
 
   lab-plain : (a f : ℕ) → f ≡ 0 → outerLab (labFrom a f) ≡ false
   lab-plain a zero e = refl
@@ -179,7 +179,7 @@ module _ (rs qs src : List ℕ) (o : code.Pass1State) (h : Held rs qs src o) (b 
             keeps (noted.Held m) g o′ p =
                 let v : withRelocations o m ≡ o′ = cc in
                 let y : Held rs qs′ src (withRelocations o m) = record {
-                  lent = record { steady = record { rising = h .lent .steady .rising; address = h .lent .steady .address; few = h .lent .steady .few; sum = h .lent .steady .sum }; table = h .lent .table; room = h .lent .room; size = h .lent .size };
+                  lent = record { steady = record { rising = h .lent .steady .rising; address = h .lent .steady .address; few = h .lent .steady .few; sum = h .lent .steady .sum }; table = h .lent .table; size = h .lent .size };
                   table = a .table m g;
                   room = omega (arith, h .room, l);
                 } in

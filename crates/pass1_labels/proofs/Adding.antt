@@ -40,7 +40,7 @@ module _ (rs src : List ℕ) (n a f b e : ℕ) (v : NameReady rs src n a f b e) 
 
   module _ (s l : ℕ) (x : s ≡ b) (y : l ≡ e - b) where
     pub ready : Ready rs src n a f s l
-    ready = record { table = v .table; row = rw (x, y) (v .row); room = v .room }
+    ready = record { table = v .table; row = rw (x, y) (v .row) }
 
     name-same : namedAt src s l ≡ nameBetween src b e
     name-same = let z : b + (e - b) ≡ e = omega (arith, v .rising) in rw (x, y, z)
@@ -56,7 +56,7 @@ module _ (rs src : List ℕ) (n a f b e : ℕ) (v : NameReady rs src n a f b e) 
       }
 
       pub clash-in : (k : ℕ) → r ≡ added.Clash k → k * 4 + 4 ≤ length rs′
-      clash-in k q = let w = h .clash k q in rw (w .1) (omega (arith, w .0, v .table .room))
+      clash-in k q = let w = h .clash k q in rw (w .1) (omega (arith, w .0, v .table .few, v .table .room))
 
       pub name-clash : (k : ℕ) → r ≡ added.Clash k → (z : LabelsAdded) → z ≡ Refused 25 (getD rs′ (k * 4 + 2) 0) (getD rs′ (k * 4 + 2) 0 + getD rs′ (k * 4 + 3) 0) b e → NameAdded rs src rs′ n a f b e (span st en) z
       name-clash k q z u =
@@ -138,7 +138,6 @@ module _ (rs₀ src rs : List ℕ) (at n a : ℕ) (p : Span) (i held : ℕ) (g :
     pub going-ready : NameReady rs src held a 0 b e
     going-ready = let u = it in record {
       table = g .ready .table;
-      room = g .ready .room;
       size = g .ready .size;
       rising = u .rising;
       row = record { address = g .ready .address; flag = omega arith; outside = λ z. absurd (omega arith); place = omega (arith, u .rising, u .within); small = u .small };
@@ -158,7 +157,7 @@ module _ (rs₀ src rs : List ℕ) (at n a : ℕ) (p : Span) (i held : ℕ) (g :
       pub going-on : (m : ℕ) → r ≡ Held m → length rs′ ≡ length rs → Going rs₀ src rs′ at n a p j m
       going-on m z l = record {
         same = sym (sym (ap (λ (y : LabelsAdded). told rs′ src y >>= addLabels a p (labelsAt src j)) z) ∙ rest);
-        ready = record { table = k .table m z; room = omega (arith, g .ready .room, l); size = g .ready .size; address = g .ready .address };
+        ready = record { table = k .table m z; size = g .ready .size; address = g .ready .address };
         long = l ∙ g .long;
       }
 

@@ -5,7 +5,6 @@ use mathlib.Core.Option.{Option, none, some}
 use mathlib.Core.List.{List, [], _∷_}
 use Prim.Native.Nat.{ℕ}
 use native.Mathlib.Omega.{arith}
-use lib.ListN.{length}
 use Rattle.rules.specs.Base.{Outcome, ok, refuse, _>>=_, Span, span}
 use Rattle.rules.specs.Tables.{Table}
 use Rattle.rules.specs.Objects.{outer}
@@ -63,10 +62,10 @@ module _ (o : code.Pass1State) (z : LabelsAdded) where
 
 module _ (rs src : List ℕ) (o : code.Pass1State) (h : Lent rs src o) where
   pub names-ready : NamesReady rs src (o .labels) (o .counter)
-  names-ready = record { table = h .table; room = h .room; size = h .size; address = h .steady .address }
+  names-ready = record { table = h .table; size = h .size; address = h .steady .address }
 
   -- names added to the symbols of a state
-  module _ (rs′ : List ℕ) (l : length rs′ ≡ length rs) (z : LabelsAdded) (g : (m : ℕ) → z ≡ Held m → Growing rs′ src m) where
+  module _ (rs′ : List ℕ) (z : LabelsAdded) (g : (m : ℕ) → z ≡ Held m → Growing rs′ src m) where
     went-on : (y : ℕ → Table ℕ objects.Name) (u : LabelsAdded) → told (λ n. symbols n rs′ src) y (stepOf o u) ≡ (naming.told rs′ src u >>= λ ss. ok (pass1State (cursorOf (o .inside) (cursor (o .start) (o .counter) (span (o .«orig_start») (o .«orig_end»)))) ss (y (o .relocations)) (o .blocks) (o .words)))
     went-on y (Held m) = refl
     went-on y (Refused n a e b d) = refl
@@ -77,18 +76,18 @@ module _ (rs src : List ℕ) (o : code.Pass1State) (h : Lent rs src o) where
     kept-by : (u : LabelsAdded) → z ≡ u → (o′ : code.Pass1State) → stepOf o u ≡ stepped.Went o′ → Kept rs′ src o o′
     kept-by (Held m) q o′ e =
         let w : withLabels o m ≡ o′ = cc in
-        let v : Kept rs′ src o (withLabels o m) = record { lent = record { steady = steady-with m; table = g m q; room = omega (arith, h .room, l); size = h .size }; relocations = refl } in
+        let v : Kept rs′ src o (withLabels o m) = record { lent = record { steady = steady-with m; table = g m q; size = h .size }; relocations = refl } in
         rw w at v
     kept-by (Refused n a e′ b d) q o′ e = never cc
 
   -- AN EXTERNAL
   module _ (b e st en : ℕ) where
-    pub define-external : (rs′ : List ℕ) → length rs′ ≡ length rs → (z : LabelsAdded) → NameAdded rs src rs′ (o .labels) 0 1 b e (span st en) z → (r : Pass1Step) → r ≡ stepOf o z → (s : Stmt) (t : Target) → s .target ≡ some t → t .name ≡ nameBetween src b e → s .place ≡ span st en → Stepping rs src rs′ o (λ v. directed external s v) r
-    define-external rs′ l z k r q s t f n p = rw q (record {
-      rule = λ y. went-on rs′ l z (k .table) y z
+    pub define-external : (rs′ : List ℕ) (z : LabelsAdded) → NameAdded rs src rs′ (o .labels) 0 1 b e (span st en) z → (r : Pass1Step) → r ≡ stepOf o z → (s : Stmt) (t : Target) → s .target ≡ some t → t .name ≡ nameBetween src b e → s .place ≡ span st en → Stepping rs src rs′ o (λ v. directed external s v) r
+    define-external rs′ z k r q s t f n p = rw q (record {
+      rule = λ y. went-on rs′ z (k .table) y z
           ∙ (ap (λ (u : Outcome (Table objects.Name Symbol)). u >>= λ ss. ok (pass1State (cursorOf (o .inside) (cursor (o .start) (o .counter) (span (o .«orig_start») (o .«orig_end»)))) ss (y (o .relocations)) (o .blocks) (o .words))) (rw (← n, ← p) at (k .rule))
           ∙ sym (external-rule s t (viewPass1 (λ m. symbols m rs src) y o) f));
-      kept = kept-by rs′ l z (k .table) z refl;
+      kept = kept-by rs′ z (k .table) z refl;
     })
 
   module _ (at st en : ℕ) where
@@ -96,16 +95,16 @@ module _ (rs src : List ℕ) (o : code.Pass1State) (h : Lent rs src o) where
     Rule v = labelled (labelsAt src at) (span st en) v
 
     -- IN A BLOCK
-    module _ (i : o .inside ≡ true) (rs′ : List ℕ) (l : length rs′ ≡ length rs) (z : LabelsAdded) (k : NamesAdded rs src rs′ at (o .labels) (o .counter) (span st en) z) where
+    module _ (i : o .inside ≡ true) (rs′ : List ℕ) (z : LabelsAdded) (k : NamesAdded rs src rs′ at (o .labels) (o .counter) (span st en) z) where
       viewed : (y : ℕ → Table ℕ objects.Name) → Rule (viewPass1 (λ n. symbols n rs src) y o) ≡ Rule (pass1State (some (cursor (o .start) (o .counter) (span (o .«orig_start») (o .«orig_end»)))) (symbols (o .labels) rs src) (y (o .relocations)) (o .blocks) (o .words))
       viewed y = rw i
 
       pub define-inside : (r : Pass1Step) → r ≡ stepOf o z → Stepping rs src rs′ o Rule r
       define-inside r q = rw q (record {
-        rule = λ y. went-on rs′ l z (k .table) y z ∙ ap (λ (t : Bool). naming.told rs′ src z >>= λ ss. ok (pass1State (cursorOf t (cursor (o .start) (o .counter) (span (o .«orig_start») (o .«orig_end»)))) ss (y (o .relocations)) (o .blocks) (o .words))) i
+        rule = λ y. went-on rs′ z (k .table) y z ∙ ap (λ (t : Bool). naming.told rs′ src z >>= λ ss. ok (pass1State (cursorOf t (cursor (o .start) (o .counter) (span (o .«orig_start») (o .«orig_end»)))) ss (y (o .relocations)) (o .blocks) (o .words))) i
             ∙ (ap (λ (t : Outcome (Table objects.Name Symbol)). t >>= λ ss. ok (pass1State (some (cursor (o .start) (o .counter) (span (o .«orig_start») (o .«orig_end»)))) ss (y (o .relocations)) (o .blocks) (o .words))) (k .rule)
             ∙ (sym (labelled-inside (labelsAt src at) (span st en) _ _ _ _ _) ∙ sym (viewed y)));
-        kept = kept-by rs′ l z (k .table) z refl;
+        kept = kept-by rs′ z (k .table) z refl;
       })
 
     -- OUTSIDE

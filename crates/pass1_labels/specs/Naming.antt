@@ -19,17 +19,15 @@ abbrev pub told : (rs′ src : List ℕ) → LabelsAdded → Outcome (Table Name
 told rs′ src (Held m) = ok (symbols m rs′ src)
 told rs′ src (Refused n a e b d) = refuse2 n (span a e) (span b d)
 
--- a table with room for every row, over a source that fits
+-- a table over a source that fits
 pub record NamesReady (rs src : List ℕ) (n a : ℕ) : Type 0 where
   pub table : Growing rs src n
-  pub room : 4096 ≤ length rs
   pub size : length src ≤ 262144
   pub address : a < 65536
 
 -- and a name for it
 pub record NameReady (rs src : List ℕ) (n a f b e : ℕ) : Type 0 where
   pub table : Growing rs src n
-  pub room : 4096 ≤ length rs
   pub size : length src ≤ 262144
   pub rising : b ≤ e
   pub row : Cells src a f b (e - b)

@@ -23,7 +23,6 @@ stepOf o (Refused n a e b d) = stepped.Refused n a e b d
 pub record Lent (rs src : List ℕ) (o : Pass1State) : Type 0 where
   pub steady : Steady o
   pub table : Growing rs src (o .labels)
-  pub room : 4096 ≤ length rs
   pub size : length src ≤ 262144
 
 -- what such a step keeps

@@ -12,7 +12,7 @@ use Rattle.pass1_symbols.specs.Symbols.{symbolRow, symbols, Growing}
 pub growing-layable : {rs src : List ℕ} {n : ℕ} → Growing rs src n → Layable rs src n
 growing-layable {rs} {src} v = record {
   few = v .few;
-  room = v .room;
+  room = omega (arith, v .few, v .room);
   small = λ k l. omega (arith, v .rows k l .small, length-take (getD rs (k * 4 + 3) 0) (drop (getD rs (k * 4 + 2) 0) src));
   flag = λ k l. v .rows k l .flag;
   outside = λ k l. v .rows k l .outside;

@@ -1,9 +1,9 @@
--- What each way through `add_symbol` shows. Assumes nothing.
+-- What each way through a search by keys and through `add_symbol` shows. Assumes nothing.
 use mathlib.Core.Path.{_≡_, refl, sym, _∙_, ap}
 use mathlib.Core.Bool.{Bool, true, false}
 use mathlib.Core.Option.{Option, none, some}
 use mathlib.Core.List.{List, map}
-use Prim.Native.Nat.{ℕ, zero, suc, _+_, _-_, _*_, _≤_, _<_}
+use Prim.Native.Nat.{ℕ, zero, suc, _+_, _-_, _*_, _/_, _≤_, _<_}
 use native.Mathlib.Nat.{add-sub-cancel-left}
 use native.Mathlib.Decide.{decLt}
 use native.Mathlib.Omega.{arith}
@@ -19,11 +19,16 @@ use Rattle.rules.specs.Passes.{Symbol, symbol, addLabel}
 use Rattle.rules.specs.Buffers.{labFrom}
 use Rattle.rules.proofs.Rows.{length-tab, look-tab, look-none, sorted-tab}
 use Rattle.rules.proofs.Bools.{never}
+use Rattle.base_text.specs.Names.{ordered}
+use Rattle.base_text.specs.declared.Order.the-variants.{Less, Greater}
+use Rattle.base_keys.specs.Keys.{keyOf}
+use Rattle.base_keys.proofs.KeyLaws.{key-less, key-more}
 use Rattle.parse_labels.specs.Names.{nameFrom}
-use Rattle.object.specs.Slots.{Rising, Slotted}
+use Rattle.object.specs.Slots.{upperName, Rising, Slotted}
+use Rattle.object.proofs.Halving.{Halving}
 use Rattle.object.specs.declared.Slot.{Slot}
 use Rattle.object.specs.declared.Slot.the-variants.{Taken, Free}
-use Rattle.pass1_symbols.specs.Symbols.{symbolRow, symbols, Growing, InsertAt, Inserted}
+use Rattle.pass1_symbols.specs.Symbols.{symbolRow, symbols, keyRow, KeyedRow, Growing, InsertAt, Inserted}
 use Rattle.pass1_symbols.specs.Adding.{namedAt, Ready, Adding, Found}
 use Rattle.pass1_symbols.specs.declared.Row.the-variants.{At, Nothing}
 use Rattle.pass1_symbols.specs.declared.Added.the-variants.{Held, Clash, Full}
@@ -31,12 +36,32 @@ use Rattle.pass1_symbols.specs.declared.Added.the-variants.{Held, Clash,
 pub rising : {rs src : List ℕ} {n : ℕ} → Growing rs src n → Rising rs src n
 rising v = record { up = record { next = v .up .next } }
 
-pub slot-part : (rs src : List ℕ) (n a m s l : ℕ) (r : Slot) → a ≡ s → m ≡ l → Slotted rs src n (map upper (take (a + m - a) (drop a src))) r → Slotted rs src n (nameFrom src s l) r
-slot-part rs src n a m s l r p q t = rw (add-sub-cancel-left, p, q) at t
+-- the part of the source that a row says
+module _ (src : List ℕ) {a m s l : ℕ} (p : a ≡ s) (q : m ≡ l) where
+  pub key-part : {key : ℕ} → key ≡ keyOf (map upper (take (a + m - a) (drop a src))) → key ≡ keyOf (nameFrom src s l)
+  key-part t = rw (add-sub-cancel-left, p, q) at t
+
+  pub part-key : {key : ℕ} → key ≡ keyOf (nameFrom src s l) → key ≡ keyOf (map upper (take (a + m - a) (drop a src)))
+  part-key t = rw (add-sub-cancel-left, p, q) t
+
+  pub slot-part : (rs : List ℕ) (n : ℕ) (r : Slot) → Slotted rs src n (map upper (take (a + m - a) (drop a src))) r → Slotted rs src n (nameFrom src s l) r
+  slot-part rs n r t = rw (add-sub-cancel-left, p, q) at t
+
+-- the order by keys
+module _ {rs src : List ℕ} (name : List ℕ) {k key held : ℕ} (v : KeyedRow rs src k) (p : key ≡ keyOf (map upper name)) (q : held ≡ keyRow rs k) where
+  pub keyed-less : held < key → Less ≡ ordered (upperName rs src k) (map upper name)
+  keyed-less h = key-less (upperName rs src k) (map upper name) (q ∙ v .key) p h
+
+  pub keyed-more : key < held → Greater ≡ ordered (upperName rs src k) (map upper name)
+  keyed-more h = key-more (upperName rs src k) (map upper name) (q ∙ v .key) p h
+
+-- the row in the middle
+pub middle-keyed : {rs src : List ℕ} {n lo hi : ℕ} {x : Name} → Growing rs src n → Halving rs src n x lo hi → lo < hi → KeyedRow rs src (lo + (hi - lo) / 2)
+middle-keyed v t h = record { within = omega (arith, v .few, v .room, t .within); key = v .keys _ (omega (arith, t .within)) }
 
 module _ {rs src : List ℕ} {n a f s l : ℕ} {r : Slot} (v : Ready rs src n a f s l) (t : Slotted rs src n (nameFrom src s l) r) where
   pub taken-in : {k : ℕ} → r ≡ Taken k → k * 4 + 4 ≤ length rs
-  taken-in {k} e = omega (arith, v .table .room, t .taken k e .0)
+  taken-in {k} e = omega (arith, v .table .few, v .table .room, t .taken k e .0)
 
   pub free-at : {p : ℕ} → r ≡ Free p → n < 1024 → InsertAt rs src n p a f s l
   free-at {p} e h = record {
@@ -44,7 +69,6 @@ module _ {rs src : List ℕ} {n a f s l : ℕ} {r : Slot} (v : Ready rs src n a 
     row = v .row;
     within = t .within p e;
     new = h;
-    room = omega (arith, v .room);
     below = t .below p e;
     above = t .above p e;
   }

@@ -2,8 +2,7 @@
 use mathlib.Core.Path.{_≡_}
 use mathlib.Core.List.{List}
 use mathlib.Core.Option.{Option, none, some}
-use Prim.Native.Nat.{ℕ, _+_, _≤_, _<_}
-use lib.ListN.{length}
+use Prim.Native.Nat.{ℕ, _+_, _<_}
 use Rattle.rules.specs.Base.{Outcome, ok, refuse, refuse2, Span, span}
 use Rattle.rules.specs.Tables.{Table, look, nameOrder}
 use Rattle.rules.specs.Objects.{Name}
@@ -27,11 +26,10 @@ outcome rs src rs′ s l p (Held m) = ok (symbols m rs′ src)
 outcome rs src rs′ s l p (Clash k) = refuse2 25 (symbolRow rs src k .1 .place) (span s (s + l))
 outcome rs src rs′ s l p Full = refuse 40 p
 
--- a table with room for a row, and a name for it
+-- a table, and a name for it
 pub record Ready (rs src : List ℕ) (n a f s l : ℕ) : Type 0 where
   pub table : Growing rs src n
   pub row : Cells src a f s l
-  pub room : 4096 ≤ length rs
 
 pub record Adding (rs src rs′ : List ℕ) (n a f s l : ℕ) (r : Added) : Type 0 where
   pub rule : (p : Span) → outcome rs src rs′ s l p r ≡ addLabel (labFrom a f) p (namedAt src s l) (symbols n rs src)

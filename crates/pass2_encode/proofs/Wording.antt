@@ -163,7 +163,7 @@ module _ (rs src : List ℕ) (n : ℕ) (st : Statement) (v : Aiming rs src n st)
 
   module _ (k : ℕ) (q : r ≡ At k) where
     pub row-in : k * 4 + 4 ≤ length rs
-    row-in = omega (arith, h .row k q .0, v .table .room)
+    row-in = omega (arith, h .row k q .0, v .table .few, v .table .room)
 
     first : k * 4 + 0 ≡ k * 4
     first = omega arith

@@ -1,12 +1,12 @@
 -- `asm::assemble` meets its contract. Assumes nothing.
 use Rattle.object_answer.proofs.Leaving.{leaves-refused}
-use Rattle.asm.proofs.Stages.{table-long, call-begun, call-fits, call-long, call-went, call-stopped}
+use Rattle.asm.proofs.Stages.{symbols-long, relocations-long, call-begun, call-fits, call-long, call-went, call-stopped}
 use borrow.Author.Needs.{needs}
 use Rattle.asm.proofs.assemble.Statement.{statement}
 use Rattle.asm.proofs.assemble.Tie as tie
 
 first-half-requires : tie.Need-first-half-requires
-first-half-requires c κs = (table-long, table-long)
+first-half-requires c κs = (symbols-long, relocations-long)
 
 second-half-requires : tie.Need-second-half-requires
 second-half-requires c κs = (call-begun _ _ _ _ _ _ (c .before .before .before .before .before .before .before .before .before .before .before .before .before .before .before .before .before .before .before .is-short .ensures) (c .before .before .before .before .before .before .before .before .before .before .before .before .before .before .before .before .lent-words .ensures) _ (c .before .before .before .before .before .before .before .before .before .before .before .before .before .first-half .ensures) _ (c .before .before .before .before .before .before .before .before .before .o .given .1), call-fits _ _ _ _ _ _ (c .before .before .before .before .before .before .before .before .before .before .before .before .before .before .before .before .before .before .before .is-short .ensures) (c .before .before .before .before .before .before .before .before .before .before .before .before .before .before .before .before .lent-words .ensures) _ (c .before .before .before .before .before .before .before .before .before .before .before .before .before .first-half .ensures) _ (c .before .before .before .before .before .before .before .before .before .o .given .1), call-long _ _ _ _ _ _ (c .before .before .before .before .before .before .before .before .before .before .before .before .before .before .before .before .before .before .before .is-short .ensures) (c .before .before .before .before .before .before .before .before .before .before .before .before .before .before .before .before .lent-words .ensures) _ (c .before .before .before .before .before .before .before .before .before .before .before .before .before .first-half .ensures) _ (c .before .before .before .before .before .before .before .before .before .o .given .1))

@@ -1,5 +1,5 @@
 -- `pass1_symbols::slot_at` meets its contract. Assumes nothing.
-use Rattle.pass1_symbols.proofs.Steps.{slot-part, rising}
+use Rattle.pass1_symbols.proofs.Steps.{part-key, slot-part}
 use borrow.Author.Needs.{needs}
 use Rattle.pass1_symbols.proofs.slot_at.Statement.{statement}
 use Rattle.pass1_symbols.proofs.slot_at.Tie as tie
@@ -14,5 +14,5 @@ slot-at-spec =
     (λ c. search needs)
     (λ c. search needs)
     (λ c. search needs)
-    (λ c κs. search (needs, rising))
+    (λ c κs. search (needs, part-key))
     (λ c. search (needs, slot-part)))
