@@ -12,7 +12,7 @@ use Rattle.rules.specs.Tokens.{upper}
 use Rattle.rules.proofs.Bools.{either, and-left, and-right}
 use Rattle.base_text.specs.Runs.{from}
 use Rattle.base_text.proofs.Rest.{from-step, from-end}
-use Rattle.lex_reserved.specs.Table.{keyOf}
+use Rattle.lex_reserved.specs.Slots.{keyOf}
 
 -- A WORD OF BYTES
 abbrev pub ofBytes : List ℕ → Bool

@@ -1,136 +1,139 @@
--- The table's rule: the row of a word's slot says what the word is. Assumes nothing.
-use Prim.Native.Nat.{ℕ, _+_, _*_, _/_, _%_, _<_, _≤_}
-use mathlib.Core.Path.{_≡_, refl, sym, _∙_}
-use mathlib.Core.Bool.{Bool, true, false, _&&_}
+-- The table's rule: the search in it finds what a word is. Assumes nothing.
+use Prim.Native.Nat.{ℕ, zero, suc, _+_, _-_, _<_, _≤_}
+use mathlib.Core.Path.{_≡_, refl, sym, _∙_, ap}
+use mathlib.Core.Bool.{Bool, true, false, _&&_, false≢true}
 use mathlib.Core.List.{List, [], _∷_, map}
 use mathlib.Core.Logic.{_⊎_, inl, inr, ⊎-elim}
 use native.Mathlib.Omega.{arith}
-use borrow.Author.Tests.{eq-eqb, ne-eqb, leb-true}
-use lib.Dec.{eqb, leb}
+use borrow.Author.Tests.{eqb-true, leb-true, ltb-false, lt-ltb, le-ltb}
+use lib.Dec.{eqb, leb, ltb}
 use lib.ListN.{length, getD, length-map}
 use Rattle.rules.specs.Base.{if_then_else_, same}
 use Rattle.rules.specs.Tokens.{upper}
+use Rattle.rules.proofs.Run.{trueRun}
 use Rattle.rules.specs.Words.{Row, instructions}
-use Rattle.rules.proofs.Instructions.{instructions-count}
-use Rattle.rules.proofs.Bools.{never, and-left, and-right}
-use Rattle.rules.proofs.Named.{same-true}
-use Rattle.lex_reserved.specs.Table.{keyOf, slotOf, rowFrom, slotRow}
+use Rattle.lex_reserved.specs.Table.{words, starts, row, firstRow, nameOf, codeOf, findIn, searched}
 use Rattle.lex_reserved.specs.Ident.{placeFrom, identOf}
 use Rattle.lex_reserved.specs.declared.Ident.{Ident}
 use Rattle.lex_reserved.specs.declared.Ident.the-variants.{Reserved, Label}
-use Rattle.lex_reserved.proofs.Keys.{ofBytes, upper-bytes, key-some, key-same}
+use Rattle.rules.proofs.Instructions.{maps-at}
+use Rattle.rules.proofs.Bools.{and-left, and-right}
 
--- THE LAST ARM OF THE MATCH: P, and the slot is none of these words'
-abbrev Apart : Type 0 → ℕ → List Row → Type 0
-Apart P x [] = P
-Apart P x (r ∷ rs) = Apart (P × (x ≡ slotOf (keyOf (r .key)) → ⊥)) x rs
+same-is : (x y : List ℕ) → same x y ≡ true → x ≡ y
+same-is [] [] t = refl
+same-is [] (b ∷ y) t = absurd (false≢true t)
+same-is (a ∷ x) [] t = absurd (false≢true t)
+same-is (a ∷ x) (b ∷ y) t = go (eqb a b) refl (same-is x y) t
+  where
+    go : (e : Bool) → eqb a b ≡ e → (same x y ≡ true → x ≡ y) → (e && same x y) ≡ true → a ∷ x ≡ b ∷ y
+    go true e f t = let p : a ≡ b = eqb-true a b e in let q : x ≡ y = f t in cc
+    go false e f t = absurd (false≢true t)
 
-row-none : (P : Type 0) (k x : ℕ) (rs : List Row) → Apart P x rs → P × (rowFrom k x rs ≡ 0)
-unfolding rowFrom if_then_else_
-row-none P k x [] h = (h, refl)
-row-none P k x (r ∷ rs) h =
-    let t = row-none (P × (x ≡ slotOf (keyOf (r .key)) → ⊥)) (k + 1) x rs h in
-    (t .0 .0, rw (ne-eqb (slotOf (keyOf (r .key))) x (λ e. t .0 .1 (sym e))) (t .1))
+-- the computed test: each row's word is the instruction of its code
+each-row : map (λ (r : List ℕ). identOf (nameOf r)) words ≡ map (λ (r : List ℕ). Reserved (codeOf r)) words
+unfolding words identOf placeFrom instructions if_then_else_
+each-row = refl
 
-pub no-word : (x : ℕ) → Apart (Unit {0}) x instructions → 0 ≡ slotRow x
-unfolding slotRow
-no-word x h = sym (row-none (Unit {0}) 0 x instructions h .1)
+-- the computed test: each instruction is found in the rows of its letter
+each-key : map (λ (r : Row). searched (r .key)) instructions ≡ map (λ (r : Row). identOf (r .key)) instructions
+unfolding words starts row firstRow findIn searched identOf placeFrom instructions if_then_else_
+each-key = refl
 
--- WHAT THE ROW OF A SLOT SAYS of a word with this key
-abbrev byRow : ℕ → ℕ → Ident
-byRow key row = if eqb (row / 256) key then Reserved (row % 256) else Label
+row-right : (i : ℕ) → i < 32 → identOf (nameOf (row i)) ≡ Reserved (codeOf (row i))
+unfolding words row
+row-right i h = maps-at (λ (r : List ℕ). identOf (nameOf r)) (λ (r : List ℕ). Reserved (codeOf r)) [] words each-row i h
 
-abbrev looked : List ℕ → Ident
-looked w = byRow (keyOf w) (slotRow (slotOf (keyOf w)))
+-- what a search finds is right
+abbrev Fine : List ℕ → Ident → Type 0
+Fine w f = (f ≡ Label) ⊎ (f ≡ identOf w)
 
--- the computed tests: each reserved word is found in its slot; each is of bytes, of two to five
-each-word : map (λ (r : Row). looked (r .key)) instructions ≡ map (λ (r : Row). identOf (r .key)) instructions
-unfolding keyOf rowFrom slotRow identOf placeFrom instructions if_then_else_
-each-word = refl
+search-fine : (n i : ℕ) (w : List ℕ) → i + n ≤ 32 → Fine w (findIn n i w)
+unfolding findIn if_then_else_
+search-fine zero i w h = inl refl
+search-fine (suc n) i w h = go (same w (nameOf (row i))) refl (search-fine n (i + 1) w (omega arith))
+  where
+    go : (t : Bool) → same w (nameOf (row i)) ≡ t → Fine w (findIn n (i + 1) w) → Fine w (if t then Reserved (codeOf (row i)) else findIn n (i + 1) w)
+    go true e f = inr (sym (row-right i (omega arith)) ∙ ap identOf (sym (same-is w (nameOf (row i)) e)))
+    go false e f = f
 
-each-bytes : map (λ (r : Row). ofBytes (r .key)) instructions ≡ map (λ (r : Row). true) instructions
-unfolding instructions
-each-bytes = refl
+-- the rows of a letter lie in the table
+inOrder : ℕ → Bool
+unfolding starts firstRow
+inOrder c = leb (firstRow c) (firstRow (c + 1)) && leb (firstRow (c + 1)) 32
 
-abbrev sized : List ℕ → Bool
-sized w = leb 2 (length w) && leb (length w) 5
+in-order : (c : ℕ) → 65 ≤ c → c ≤ 90 → inOrder c ≡ true
+unfolding inOrder
+in-order c l h = sym (trueRun inOrder 65 26 tt c l (omega arith))
 
-each-sized : map (λ (r : Row). sized (r .key)) instructions ≡ map (λ (r : Row). true) instructions
-unfolding instructions
-each-sized = refl
+module _ (c : ℕ) (l : 65 ≤ c) (h : c ≤ 90) where
+  pub first-next : firstRow c ≤ firstRow (c + 1)
+  unfolding inOrder
+  first-next = leb-true _ _ (and-left (leb (firstRow c) (firstRow (c + 1))) _ (in-order c l h))
 
--- a word is a label, or it is found
-place-fine : (w : List ℕ) (k : ℕ) (rs : List Row) → map (λ (r : Row). looked (r .key)) rs ≡ map (λ (r : Row). identOf (r .key)) rs → (placeFrom k w rs ≡ Label) ⊎ (looked w ≡ identOf w)
+  pub next-last : firstRow (c + 1) ≤ 32
+  unfolding inOrder
+  next-last = leb-true _ _ (and-right (leb (firstRow c) (firstRow (c + 1))) _ (in-order c l h))
+
+either-if : (P : Ident → Type 0) (b : Bool) {x y : Ident} → P x → (b ≡ false → P y) → P (if b then x else y)
+unfolding if_then_else_
+either-if P true p q = p
+either-if P false p q = q refl
+
+searched-fine : (w : List ℕ) → Fine w (searched w)
+unfolding searched
+searched-fine w =
+    let c = getD w 0 0 in
+    either-if (Fine w) (ltb (length w) 2) (inl refl) (λ a.
+    either-if (Fine w) (ltb 5 (length w)) (inl refl) (λ b.
+    either-if (Fine w) (ltb c 65) (inl refl) (λ l.
+    either-if (Fine w) (ltb 90 c) (inl refl) (λ h.
+    let lo : 65 ≤ c = ltb-false _ _ l in
+    let hi : c ≤ 90 = ltb-false _ _ h in
+    search-fine (firstRow (c + 1) - firstRow c) (firstRow c) w (omega (arith, first-next c lo hi, next-last c lo hi))))))
+
+-- a word is a label, or the search finds it
+place-fine : (w : List ℕ) (k : ℕ) (rs : List Row) → map (λ (r : Row). searched (r .key)) rs ≡ map (λ (r : Row). identOf (r .key)) rs → (placeFrom k w rs ≡ Label) ⊎ (searched w ≡ identOf w)
 unfolding placeFrom if_then_else_
 place-fine w k [] e = inl refl
 place-fine w k (r ∷ rs) e = go (same w (r .key)) refl (place-fine w (k + 1) rs (cc))
   where
-    go : (t : Bool) → same w (r .key) ≡ t → (placeFrom (k + 1) w rs ≡ Label) ⊎ (looked w ≡ identOf w) → ((if t then Reserved k else placeFrom (k + 1) w rs) ≡ Label) ⊎ (looked w ≡ identOf w)
+    go : (t : Bool) → same w (r .key) ≡ t → (placeFrom (k + 1) w rs ≡ Label) ⊎ (searched w ≡ identOf w) → ((if t then Reserved k else placeFrom (k + 1) w rs) ≡ Label) ⊎ (searched w ≡ identOf w)
     go true q f =
-        let p : looked (r .key) ≡ identOf (r .key) = cc in
-        inr (rw (same-true w (r .key) q) p)
+        let p : searched (r .key) ≡ identOf (r .key) = cc in
+        inr (rw (same-is w (r .key) q) p)
     go false q f = f
 
--- a label's key is not the one in its slot
-key-other : (a b : List ℕ) (k : ℕ) → k < 256 → ofBytes a ≡ true → ofBytes b ≡ true → same a b ≡ false → byRow (keyOf a) (keyOf b * 256 + k) ≡ Label
-unfolding if_then_else_
-key-other a b k h p q n =
-    let d : (keyOf b * 256 + k) / 256 ≡ keyOf b = omega arith in
-    rw (ne-eqb ((keyOf b * 256 + k) / 256) (keyOf a) (λ e. let t : same a b ≡ true = key-same a b p q (sym e ∙ d) in never cc))
-
-label-fine : (w : List ℕ) (k x : ℕ) (rs : List Row) → k + length rs ≤ 256 → ofBytes w ≡ true → map (λ (r : Row). ofBytes (r .key)) rs ≡ map (λ (r : Row). true) rs → placeFrom k w rs ≡ Label → byRow (keyOf w) (rowFrom k x rs) ≡ Label
-unfolding placeFrom rowFrom if_then_else_
-label-fine w k x [] h p q e = rw (ne-eqb 0 (keyOf w) (λ z. omega (arith, key-some w)))
-label-fine w k x (r ∷ rs) h p q e = go (same w (r .key)) refl e (label-fine w (k + 1) x rs (omega arith) p (cc))
-  where
-    slot : (t : Bool) → same w (r .key) ≡ false → byRow (keyOf w) (rowFrom (k + 1) x rs) ≡ Label → byRow (keyOf w) (if t then keyOf (r .key) * 256 + k else rowFrom (k + 1) x rs) ≡ Label
-    slot true n f = key-other w (r .key) k (omega arith) p (cc) n
-    slot false n f = f
-
-    go : (t : Bool) → same w (r .key) ≡ t → (if t then Reserved k else placeFrom (k + 1) w rs) ≡ Label → (placeFrom (k + 1) w rs ≡ Label → byRow (keyOf w) (rowFrom (k + 1) x rs) ≡ Label) → byRow (keyOf w) (if eqb (slotOf (keyOf (r .key))) x then keyOf (r .key) * 256 + k else rowFrom (k + 1) x rs) ≡ Label
-    go true n e f = never cc
-    go false n e f = slot (eqb (slotOf (keyOf (r .key))) x) n (f e)
-
-looked-right : (w : List ℕ) → ofBytes w ≡ true → looked w ≡ identOf w
-unfolding identOf slotRow
-looked-right w p =
+pub searched-right : (w : List ℕ) → searched w ≡ identOf w
+unfolding identOf
+searched-right w =
     ⊎-elim
-    (λ l. label-fine w 0 (slotOf (keyOf w)) instructions (omega (arith, instructions-count)) p each-bytes l ∙ sym l)
+    (λ l. ⊎-elim (λ n. n ∙ sym l) (λ e. e) (searched-fine w))
     (λ e. e)
-    (place-fine w 0 instructions each-word)
+    (place-fine w 0 instructions each-key)
 
--- THE WAYS THROUGH THE CODE
-module _ (s : List ℕ) {key slot row : ℕ} (e : key ≡ keyOf (map upper s)) (f : slot ≡ slotOf key) (g : row ≡ slotRow slot) where
-  said : ((k : ℕ) → getD s k 0 < 256) → byRow key row ≡ identOf (map upper s)
-  said v = rw (g, f, e) (looked-right (map upper s) (upper-bytes s v))
+first-upper : (s : List ℕ) → 2 ≤ length s → getD (map upper s) 0 0 ≡ upper (getD s 0 0)
+first-upper [] h = absurd (omega arith)
+first-upper (x ∷ s) h = refl
 
-  pub ident-row : row / 256 ≡ key → ((k : ℕ) → getD s k 0 < 256) → Reserved (row % 256) ≡ identOf (map upper s)
-  unfolding if_then_else_
-  ident-row h v = rw (eq-eqb (row / 256) key h) at (said v)
+-- the ways through the search
+module _ (s : List ℕ) where
+  pub ident-short : length s < 2 → Label ≡ identOf (map upper s)
+  unfolding searched if_then_else_
+  ident-short h = sym (rw (length-map s upper, lt-ltb _ _ h)) ∙ searched-right (map upper s)
 
-  pub ident-none : (row / 256 ≡ key → ⊥) → ((k : ℕ) → getD s k 0 < 256) → Label ≡ identOf (map upper s)
-  unfolding if_then_else_
-  ident-none h v = rw (ne-eqb (row / 256) key h) at (said v)
+  pub ident-long : 2 ≤ length s → 5 < length s → Label ≡ identOf (map upper s)
+  unfolding searched if_then_else_
+  ident-long l h = sym (rw (length-map s upper, le-ltb _ _ l, lt-ltb _ _ h)) ∙ searched-right (map upper s)
 
--- a word of another length than the reserved words have
-other-length : (w : List ℕ) (k : ℕ) (rs : List Row) → (length w < 2) ⊎ (5 < length w) → map (λ (r : Row). sized (r .key)) rs ≡ map (λ (r : Row). true) rs → placeFrom k w rs ≡ Label
-unfolding placeFrom if_then_else_
-other-length w k [] h e = refl
-other-length w k (r ∷ rs) h e = go (same w (r .key)) refl (other-length w (k + 1) rs h (cc))
-  where
-    go : (t : Bool) → same w (r .key) ≡ t → placeFrom (k + 1) w rs ≡ Label → (if t then Reserved k else placeFrom (k + 1) w rs) ≡ Label
-    go true q f =
-        let t : sized (r .key) ≡ true = cc in
-        let z : sized w ≡ true = rw (same-true w (r .key) q) t in
-        let a : 2 ≤ length w = leb-true 2 (length w) (and-left (leb 2 (length w)) (leb (length w) 5) z) in
-        let b : length w ≤ 5 = leb-true (length w) 5 (and-right (leb 2 (length w)) (leb (length w) 5) z) in
-        absurd (⊎-elim (λ i. omega arith) (λ i. omega arith) h)
-    go false q f = f
+  module _ {c : ℕ} (e : c ≡ upper (getD s 0 0)) (l : 2 ≤ length s) (h : length s ≤ 5) where
+    pub ident-low : c < 65 → Label ≡ identOf (map upper s)
+    unfolding searched if_then_else_
+    ident-low k = sym (rw (length-map s upper, le-ltb _ _ l, le-ltb _ _ h, first-upper s l, ← e, lt-ltb _ _ k)) ∙ searched-right (map upper s)
 
-pub ident-short : (s : List ℕ) → length s < 2 → Label ≡ identOf (map upper s)
-unfolding identOf
-ident-short s h = sym (other-length (map upper s) 0 instructions (inl (rw (length-map s upper) h)) each-sized)
+    pub ident-high : 65 ≤ c → 90 < c → Label ≡ identOf (map upper s)
+    unfolding searched if_then_else_
+    ident-high k m = sym (rw (length-map s upper, le-ltb _ _ l, le-ltb _ _ h, first-upper s l, ← e, le-ltb _ _ k, lt-ltb _ _ m)) ∙ searched-right (map upper s)
 
-pub ident-long : (s : List ℕ) → 5 < length s → Label ≡ identOf (map upper s)
-unfolding identOf
-ident-long s h = sym (other-length (map upper s) 0 instructions (inr (rw (length-map s upper) h)) each-sized)
+    pub ident-found : {r : Ident} {a b : ℕ} → 65 ≤ c → c ≤ 90 → a ≡ firstRow c → b ≡ firstRow (c + 1) → r ≡ findIn (b - a) a (map upper s) → r ≡ identOf (map upper s)
+    unfolding searched if_then_else_
+    ident-found k m p q f = f ∙ rw (p, q) (sym (rw (length-map s upper, le-ltb _ _ l, le-ltb _ _ h, first-upper s l, ← e, le-ltb _ _ k, le-ltb _ _ m))) ∙ searched-right (map upper s)

@@ -222,7 +222,7 @@ plain-word [] h p e q f k m = absurd (h refl)
 plain-word (c ∷ s) h p e q f k m = m ∙ (ap isLabel k ∙ sym (rw (sym p ∙ e, sym q ∙ f) refl))
 
 pub plain-long : (l : List ℕ) {x y : Bool} → (length l ≡ 0 → ⊥) → x ≡ beginning (getD l 0 0) → x ≡ true → y ≡ allCapital l → y ≡ true → 5 < length l → true ≡ plain l
-plain-long l h p e q f k = plain-word l h p e q f (ident-long l k) refl
+plain-long l h p e q f k = plain-word l h p e q f (ident-long l (omega arith) k) refl
 
 -- a long word of capital bytes
 pub capital-good : (l : List ℕ) {x : Bool} → allCapital l ≡ true → 5 < length l → length l ≤ 64 → x ≡ beginning (getD l 0 0) → x ≡ true → true ≡ goodName l

@@ -2,8 +2,8 @@
 use mathlib.Core.Path.{sym, ap}
 use Rattle.rules.specs.Base.{if_then_else_}
 use Rattle.rules.specs.Words.{instructions}
-use Rattle.lex_reserved.specs.Table.{keyOf, rowFrom, slotRow}
-use Rattle.lex_reserved.proofs.Rule.{no-word}
+use Rattle.lex_reserved.specs.Slots.{keyOf, rowFrom, slotRow}
+use Rattle.lex_reserved.proofs.Slots.{no-word}
 use Rattle.lex_reserved.proofs.slot_row.Statement.{statement}
 use Rattle.lex_reserved.proofs.slot_row.Tie as tie
 
