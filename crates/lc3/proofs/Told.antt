@@ -12,6 +12,8 @@ use Rattle.rules.specs.Words as R
 use Rattle.rules.specs.Buffers.{Buffers, view, Valid, zeros}
 use Rattle.rules.specs.Answers.{Answer, answer, noCounts, numbers}
 use Rattle.lex_token.specs.declared.Next.{Next}
+use Rattle.lex_token.specs.declared.Lexeme.{Lexeme}
+use Rattle.lex_token.specs.Flat.{flatNext}
 use Rattle.parse.specs.Coded.{codedStatements, sourceStatements}
 use Rattle.parse.specs.declared.Statements.{Statements}
 use Rattle.rules.specs.Calls.{OfObject, too-short, bad-object, on-object}
@@ -27,7 +29,8 @@ use Rattle.laws.proofs.Single.{Single, source-single}
 use Rattle.object_answer.specs.declared.Answer as object_answer
 use Rattle.object_answer.specs.Meant.{meant, Leaves}
 use Rattle.lc3_answers.specs.declared.Reply.{Reply}
-use Rattle.lc3_answers.specs.Told.{reply, row, answered, counted, nextTold, statementsTold, writtenTold, saidTold, RowIn, foundTold, lineTold}
+use Rattle.lc3_answers.proofs.Lexemes.{lexeme-told}
+use Rattle.lc3_answers.specs.Told.{reply, row, answered, counted, nextTold, lexemeTold, statementsTold, writtenTold, saidTold, RowIn, foundTold, lineTold}
 use Rattle.object_answer.specs.declared.Written.the-variants.{Bytes}
 use Rattle.laws_stored.specs.Offsets.{partAt}
 use Rattle.view_places.specs.Lines.{feeds, since}
@@ -51,8 +54,8 @@ unfolding sourceStatements
 source-checked s = told-checked (sourceStatements s) (source-single s)
 
 module _ {r : Reply} {out : List ℕ} (p : out ≡ row r) where
-  pub next-put : {n m : Next} → n ≡ m → r ≡ reply (nextTold n) → out ≡ numbers (nextTold m)
-  next-put q e = put (e ∙ ap (λ (x : Next). reply (nextTold x)) q) p
+  pub next-put : {t : Lexeme} (n : Next) → t ≡ flatNext n → r ≡ reply (lexemeTold t) → out ≡ numbers (nextTold n)
+  next-put n q e = put (e ∙ (ap (λ (x : Lexeme). reply (lexemeTold x)) q ∙ ap reply (lexeme-told n))) p
 
   pub statements-put : {n : Statements} (s : List ℕ) → n ≡ codedStatements (sourceStatements s) → r ≡ reply (statementsTold n) → out ≡ numbers (checked (sourceStatements s))
   statements-put s q e = put (e ∙ (ap (λ (x : Statements). reply (statementsTold x)) q ∙ ap reply (source-checked s))) p

@@ -21,7 +21,7 @@ ghost use Rattle.lc3.specs.Calls.{checked, placeTold, RefusalCall, LinkC
 pub extern "C" fn lc3_next_token(src: &[u8], at: usize, out: &mut [u64; 9])
     ensures { λ _. ⌜ now (out .exit) ≡ numbers (nextTold (coded (nextToken (now (src .entry)) at))) ⌝ }
 {
-    lc3_answers::put_answer(out, lc3_answers::told_next(lex::next_token(src, at)));
+    lc3_answers::put_answer(out, lc3_answers::told_lexeme(lex::lexeme_at(src, at)));
 }
 
 // The first refusal of a source: 11, 12, 1 to 10, then 13 to 16.

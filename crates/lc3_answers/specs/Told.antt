@@ -4,7 +4,8 @@ use mathlib.Core.Path.{_≡_}
 use mathlib.Core.List.{List, [], _∷_}
 use mathlib.Core.Option.{Option, none, some}
 use lib.ListN.{getD}
-use Rattle.rules.specs.Base.{Span, span, nowhere, Outcome, ok, refused}
+use lib.Dec.{eqb}
+use Rattle.rules.specs.Base.{if_then_else_, Span, span, nowhere, Outcome, ok, refused}
 use Rattle.rules.specs.Words.{Operand, register, value, Instr, instruction, filled}
 use Rattle.rules.specs.Words as R
 use Rattle.rules.specs.Objects.{Lab, outer, defined, Counts}
@@ -12,7 +13,7 @@ use Rattle.rules.specs.Answers.{Answer, accepted, refusal}
 use Rattle.lex_token.specs.declared.Next.{Next}
 use Rattle.lex_token.specs.declared.Next.the-variants as next
 use Rattle.lex_token.specs.declared.Lexeme.{Lexeme}
-use Rattle.lex_token.specs.Flat.{lexeme, flatToken}
+use Rattle.lex_token.specs.Flat.{lexeme, faultSort, flatToken}
 use Rattle.parse.specs.declared.Statements.{Statements}
 use Rattle.parse.specs.declared.Statements.the-variants as all
 use Rattle.object_answer.specs.declared.Written.{Written}
@@ -61,6 +62,10 @@ abbrev pub nextTold : Next → Answer
 nextTold (next.Took t a e) = tokenTold (flatToken t a e)
 nextTold (next.End i) = tokenTold (lexeme 10 0 i i)
 nextTold (next.Refused n a e) = refusedAt n (span a e)
+
+-- the same of the four numbers by which the code has it
+abbrev pub lexemeTold : Lexeme → Answer
+lexemeTold t = if eqb (t .sort) faultSort then refusedAt (t .value) (span (t .start) (t .end)) else tokenTold t
 
 -- all statements
 abbrev pub statementsTold : Statements → Answer

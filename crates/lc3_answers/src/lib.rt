@@ -6,9 +6,8 @@ use base_casts::long32;
 use isa::AsmInstr;
 use isa::ImmOrReg;
 use isa::disassembly::Line;
-use lex_reserved::Ident;
-use lex_token::Next;
-use lex_token::Token;
+use lex_token::FAULT;
+use lex_token::Lexeme;
 use object_answer::Answer;
 use object_answer::Written;
 use object_lookup::Found;
@@ -20,10 +19,10 @@ ghost use lib.ListN.{length, getD};
 ghost use Rattle.rules.specs.Base.{span};
 ghost use Rattle.isa.specs.Instructions.{meant, operandOf};
 ghost use Rattle.isa.specs.Disassembly.{meantLine};
-ghost use Rattle.lex_token.specs.Flat.{lexeme, flatIdent, flatToken};
+ghost use Rattle.lex_token.specs.Flat.{lexeme};
 ghost use Rattle.object_answer.specs.Meant.{meant as meantAnswer};
 ghost use Rattle.object_lookup.specs.Told.{said};
-ghost use Rattle.lc3_answers.specs.Told.{reply, row, four, answered, counted, refusedAt, tokenTold, nextTold, statementsTold, writtenTold, saidTold, RowIn, foundTold, operandTold, instrTold, lineTold};
+ghost use Rattle.lc3_answers.specs.Told.{reply, row, four, answered, counted, refusedAt, tokenTold, lexemeTold, statementsTold, writtenTold, saidTold, RowIn, foundTold, operandTold, instrTold, lineTold};
 
 pub struct Reply {
     pub number: u64,
@@ -122,40 +121,14 @@ fn told_token(sort: u64, value: u64, start: usize, end: usize) -> Reply
     }
 }
 
-fn told_ident(ident: Ident, start: usize, end: usize) -> Reply
-    ensures { λ r. ⌜ r ≡ reply (tokenTold (flatIdent ident start end)) ⌝ }
+// The answer of looking for the next token, from its four numbers.
+pub fn told_lexeme(t: Lexeme) -> Reply
+    ensures { λ r. ⌜ r ≡ reply (lexemeTold t) ⌝ }
 {
-    match ident {
-        Ident::Reserved(code) => told_token(5, long8(code), start, end),
-        Ident::Label => told_token(3, 0, start, end),
+    if t.sort == FAULT {
+        return refused(long16(t.value), t.start, t.end);
     }
-}
-
-fn told_kind(token: Token, start: usize, end: usize) -> Reply
-    ensures { λ r. ⌜ r ≡ reply (tokenTold (flatToken token start end)) ⌝ }
-{
-    match token {
-        Token::Unsigned(n) => told_token(0, long16(n), start, end),
-        Token::Signed(n) => told_token(1, long16(n), start, end),
-        Token::Reg(n) => told_token(2, long8(n), start, end),
-        Token::Ident(ident) => told_ident(ident, start, end),
-        Token::String => told_token(4, 0, start, end),
-        Token::Directive => told_token(6, 0, start, end),
-        Token::Colon => told_token(7, 0, start, end),
-        Token::Comma => told_token(8, 0, start, end),
-        Token::NewLine => told_token(9, 0, start, end),
-    }
-}
-
-// The answer of looking for the next token.
-pub fn told_next(next: Next) -> Reply
-    ensures { λ r. ⌜ r ≡ reply (nextTold next) ⌝ }
-{
-    match next {
-        Next::Took { token, start, end } => told_kind(token, start, end),
-        Next::End(at) => told_token(10, 0, at, at),
-        Next::Refused { number, start, end } => refused(long16(number), start, end),
-    }
+    told_token(long8(t.sort), long16(t.value), t.start, t.end)
 }
 
 // The answer of reading all statements.

@@ -31,10 +31,11 @@ use stored_seek::Row;
 
 // What is known of the fields up to `at`: what run came last; words read, and those that the open block is owed; blocks, the open one among them, and
 // where the last ends; labels, name bytes and relocations read; the least address that the next relocation may have and the label row of the last;
-// and for the next one's word, from which field on it is to be looked for and at which address words begin there. What a field changes stands together.
+// and for the next one's word, from which field on it is to be looked for and at which address words begin there. What a field changes stands together,
+// and every number has the same width, so that a walk is copied without gaps.
 pub struct Walk {
     pub at: usize,
-    pub previous: u8,
+    pub previous: usize,
     pub words: usize,
     pub owed: usize,
     pub blocks: usize,
@@ -49,11 +50,11 @@ pub struct Walk {
 }
 
 // What run came last: none or a full one of set words, so that any may follow; a shorter one of set words; one of unset words.
-const FREE: u8 = 0;
+const FREE: usize = 0;
 
-const SHORT: u8 = 1;
+const SHORT: usize = 1;
 
-const SKIPPED: u8 = 2;
+const SKIPPED: usize = 2;
 
 // How things stand behind a field that may follow; the counts of the object where x00 ends the bytes; or the offset of 50.
 pub enum Walked {
@@ -132,7 +133,7 @@ fn step_block(bytes: &[u8], w: Walk, start: usize, end: usize) -> Walked
 }
 
 // What may follow a run of so many set words.
-fn set_kind(size: usize) -> u8
+fn set_kind(size: usize) -> usize
     ensures { λ r. ⌜ r ≡ setKind size ⌝ }
 {
     if size == RUN_WORDS {
@@ -142,7 +143,7 @@ fn set_kind(size: usize) -> u8
 }
 
 // What may follow the last run of a block: at its end another block, so any run.
-fn kind_left(owed: usize, kind: u8) -> u8
+fn kind_left(owed: usize, kind: usize) -> usize
     ensures { λ r. ⌜ r ≡ kindLeft owed kind ⌝ }
 {
     if owed == 0 {
@@ -152,7 +153,7 @@ fn kind_left(owed: usize, kind: u8) -> u8
 }
 
 // Behind a run of so many words.
-fn grown(w: Walk, at: usize, size: usize, kind: u8) -> Walk
+fn grown(w: Walk, at: usize, size: usize, kind: usize) -> Walk
     requires { ⌜ size ≤ w .owed ⌝ }
     requires { ⌜ w .words + w .owed ≤ 65024 ⌝ }
     ensures { λ r. ⌜ r ≡ behindRun w at size kind ⌝ }
