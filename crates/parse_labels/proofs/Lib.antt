@@ -2,3 +2,5 @@
 pub mod Walking
 pub mod Labelled
 pub mod Texts
+pub mod Whole
+pub mod Before

@@ -178,7 +178,7 @@ module _ (s : List ℕ) (i : ℕ) (t : Lexeme) (h : Stands s i t) (b : Bool) (q 
 -- THE FIRST LABEL FROM A PLACE
 
 -- a label's place is its token's
-as-placed : (k : Kind) (p : Span) (n : Name) → asName k p ≡ some n → n .place ≡ p
+pub as-placed : (k : Kind) (p : Span) (n : Name) → asName k p ≡ some n → n .place ≡ p
 unfolding asName if_then_else_
 as-placed k p n e = go (asLabel k) e
   where

@@ -1,13 +1,14 @@
 -- Newlines and labels as the code walks them. Assumes nothing.
 use Prim.Native.Nat.{ℕ, _-_}
-use mathlib.Core.Bool.{Bool, _&&_, _||_, not}
+use mathlib.Core.Bool.{Bool, false, _&&_, _||_, not}
 use mathlib.Core.List.{List}
 use mathlib.Core.Option.{Option, none, some}
 use mathlib.Core.Path.{_≡_}
 use lib.Dec.{eqb, leb}
 use lib.ListN.{length}
-use Rattle.rules.specs.Base.{if_then_else_, is}
-use Rattle.rules.specs.Statements.{Name, isMark, tokenIs, stopAt, pastLines, pastLabel, pastLabels, nameAt, labelsAt}
+use Rattle.rules.specs.Base.{if_then_else_, is, ok}
+use Rattle.rules.specs.Tokens.{Token, nextToken}
+use Rattle.rules.specs.Statements.{Name, isMark, ends, tokenIs, stopAt, pastLines, pastLabel, pastLabels, nameAt, labelsAt}
 use Rattle.lex_token.specs.declared.Lexeme.{Lexeme}
 use Rattle.lex.specs.Sorts.{Stands}
 use Rattle.parse_labels.specs.declared.Label.{Label}
@@ -53,3 +54,10 @@ isBefore t colon = (isLabel t || eqb (t .sort) 9) || (colon && eqb (t .sort) 7)
 pub record Walked (s : List ℕ) (i : ℕ) (w : Walk) : Type 0 where
   pub token : Stands s (pastLines s (pastLabels s i)) (w .token)
   pub labelled : w .labelled ≡ not (eqb (length (labelsAt s i)) 0)
+
+-- the first token after labels and newlines from i is not the source's end, and begins at `head`
+pub record Heads (s : List ℕ) (i head : ℕ) : Type 0 where
+  pub token : Token
+  pub is : nextToken s (pastLines s (pastLabels s i)) ≡ ok token
+  pub more : ends (token .kind) ≡ false
+  pub start : token .place .start ≡ head

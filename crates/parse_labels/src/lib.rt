@@ -5,7 +5,9 @@ use lex_token::Lexeme;
 ghost use mathlib.Core.Path.{_≡_};
 ghost use Prim.Native.Nat.{_-_};
 ghost use Rattle.rules.specs.Statements.{pastColon, pastLines};
-ghost use Rattle.parse_labels.specs.Walk.{afterLine, leadsLine, labelHere, labelFrom, isLabel, isBefore, Walked};
+ghost use Rattle.base_text.specs.Runs.{runEnd};
+ghost use Rattle.base_text.specs.declared.Class.the-variants.{Space};
+ghost use Rattle.parse_labels.specs.Walk.{afterLine, leadsLine, labelHere, labelFrom, isLabel, isBefore, Walked, Heads};
 
 // A label token of at most 64 bytes, or none.
 pub enum Label {
@@ -120,6 +122,35 @@ pub fn next_label(src: &[u8], at: usize) -> NextLabel
             next: past_colon(src, end),
         },
         Label::Nothing => NextLabel::Done,
+    }
+}
+
+// Where the first token behind newlines begins, past spaces. Newlines are walked only where one is led to.
+fn first_start(src: &[u8], at: usize) -> usize
+    ensures { λ r. ⌜ r ≡ runEnd Space (now (src .entry)) (pastLines (now (src .entry)) at) ⌝ }
+{
+    let start = base_text::run_end(src, at, Class::Space);
+    if leads_line(base_text::byte_at(src, start)) {
+        let place = past_lines(src, at);
+        return base_text::run_end(src, place, Class::Space);
+    }
+    start
+}
+
+// The same as `next_label`, where the statement after the labels is known to begin at `head`: what stands before it and is no newline is a label, which is as long as its word characters. No word is looked up again.
+pub fn label_before(src: &[u8], at: usize, head: usize) -> NextLabel
+    requires { ⌜ Heads (now src) at head ⌝ }
+    ensures { λ r. ⌜ r ≡ labelFrom (now (src .entry)) at ⌝ }
+{
+    let start = first_start(src, at);
+    if head <= start {
+        return NextLabel::Done;
+    }
+    let end = base_text::run_end(src, start, Class::Word);
+    NextLabel::Label {
+        start,
+        end,
+        next: past_colon(src, end),
     }
 }
 

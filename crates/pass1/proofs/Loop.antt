@@ -1,5 +1,5 @@
 -- Pass one over statement after statement, as its loop goes. Assumes nothing.
-use mathlib.Core.Path.{_≡_, refl, sym, _∙_, ap}
+use mathlib.Core.Path.{_≡_, refl, sym, _∙_, ap, subst}
 use mathlib.Core.Bool.{true, false}
 use mathlib.Core.List.{List, [], _∷_}
 use mathlib.Core.Option.{none, some}
@@ -21,6 +21,8 @@ use Rattle.parse.specs.declared.NextStatement.{NextStatement}
 use Rattle.parse.specs.declared.NextStatement.the-variants as next
 use Rattle.parse.specs.Coded.{codedRead, codedStatement, AllRead}
 use Rattle.parse.proofs.All.{WasRead, was-read, was-end, was-refused}
+use Rattle.parse_labels.specs.Walk.{Heads}
+use Rattle.parse_labels.proofs.Before.{heads-read}
 use Rattle.parse_meaning.specs.Reading.{Faithful}
 use Rattle.parse_meaning.proofs.Read.{faithful}
 use Rattle.pass1_state.specs.declared.Pass1State as code
@@ -135,6 +137,10 @@ module _ (rs₀ qs₀ rs qs src : List ℕ) (at : ℕ) (o : code.Pass1State) (g 
 
     pub going-stands : Stands src st
     going-stands = record { at = at; stmt = it .read .stmt; faithful = true-to }
+
+    pub going-heads : Heads src at (st .start)
+    unfolding codedRead
+    going-heads = subst (Heads src at) (ap (λ (y : Statement). y .start) (it .coded)) (heads-read src at (it .read) (it .is))
 
     module _ (rs′ qs′ : List ℕ) (a : Pass1Step) (k : (s : Stmt) → Faithful src at st s → Stepping rs qs src rs′ qs′ o (stepOne s) a) where
       step : Stepping rs qs src rs′ qs′ o (stepOne (it .read .stmt)) a

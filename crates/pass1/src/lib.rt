@@ -12,6 +12,7 @@ ghost use Rattle.rules.specs.Statements.{Stmt};
 ghost use Rattle.rules.specs.Passes.{stepOne, passOne};
 ghost use Rattle.pass1_state.specs.State.{viewPass1, Steady};
 ghost use Rattle.pass1_state.specs.State as Counting;
+ghost use Rattle.parse_labels.specs.Walk.{Heads};
 ghost use Rattle.parse_meaning.specs.Reading.{Faithful};
 ghost use Rattle.pass1_fill.specs.Tables.{Held, Stepping};
 ghost use Rattle.pass1.specs.Steps.{oneWord, onlyCounts, stepOn, Stands, PassedOne};
@@ -52,7 +53,7 @@ fn step_labelled(
     st: Statement,
     o: Pass1State,
 ) -> Pass1Step
-    requires { ⌜ Held (now labels) (now relocations) (now src) o × Stands (now src) st ⌝ }
+    requires { ⌜ Held (now labels) (now relocations) (now src) o × Stands (now src) st × Heads (now src) at (st .start) ⌝ }
     ensures { λ r. ⌜ ((s : Stmt) → Faithful (now (src .entry)) at st s → Stepping (now (labels .entry)) (now (relocations .entry)) (now (src .entry)) (now (labels .exit)) (now (relocations .exit)) o (stepOne s) r) ⌝ }
 {
     let answer = pass1_labels::define_labels(src, labels, at, o, st.start, st.end);
@@ -102,7 +103,7 @@ fn step(
     st: Statement,
     o: Pass1State,
 ) -> Pass1Step
-    requires { ⌜ Held (now labels) (now relocations) (now src) o × Stands (now src) st ⌝ }
+    requires { ⌜ Held (now labels) (now relocations) (now src) o × Stands (now src) st × Heads (now src) at (st .start) ⌝ }
     ensures { λ r. ⌜ ((s : Stmt) → Faithful (now (src .entry)) at st s → Stepping (now (labels .entry)) (now (relocations .entry)) (now (src .entry)) (now (labels .exit)) (now (relocations .exit)) o (stepOne s) r) ⌝ }
 {
     if st.labelled {

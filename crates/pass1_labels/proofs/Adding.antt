@@ -15,7 +15,7 @@ use Rattle.rules.specs.Buffers.{labFrom}
 use Rattle.rules.proofs.Ahead.{label-in, names-on, names-done}
 use Rattle.rules.proofs.Bools.{never}
 use Rattle.parse_labels.specs.Names.{nameFrom, nameBetween}
-use Rattle.parse_labels.specs.Walk.{labelFrom, labelled}
+use Rattle.parse_labels.specs.Walk.{labelFrom, labelled, Heads}
 use Rattle.parse_labels.specs.declared.NextLabel.{NextLabel}
 use Rattle.parse_labels.specs.declared.NextLabel.the-variants.{Label, Done}
 use Rattle.pass1_symbols.specs.Symbols.{symbolRow, symbols}
@@ -26,6 +26,7 @@ use Rattle.pass1_labels.specs.declared.LabelsAdded.{LabelsAdded}
 use Rattle.pass1_labels.specs.declared.LabelsAdded.the-variants.{Held, Refused}
 use Rattle.pass1_labels.specs.Naming.{told, NamesReady, NameReady, NameAdded, NamesAdded}
 use Rattle.parse_labels.proofs.Texts.{name-stands}
+use Rattle.parse_labels.proofs.Before.{heads-on}
 
 refused-no : {A : Type 0} {n a e b d m : ℕ} → Refused n a e b d ≡ Held m → A
 refused-no q = never cc
@@ -76,14 +77,15 @@ module _ (rs src : List ℕ) (n a f b e : ℕ) (v : NameReady rs src n a f b e) 
 
 -- ALL LABELS
 
--- the labels from i on are left, for a table that has those before
+-- the labels from i on are left, for a table that has those before, and then the same statement
 pub record Going (rs₀ src rs : List ℕ) (at n a : ℕ) (p : Span) (i held : ℕ) : Type 0 where
   pub same : addLabels a p (labelsAt src at) (symbols n rs₀ src) ≡ addLabels a p (labelsAt src i) (symbols held rs src)
   pub ready : NamesReady rs src held a
   pub long : length rs ≡ length rs₀
+  pub heads : Heads src i (p .start)
 
-pub going-start : (rs src : List ℕ) (at n a : ℕ) (p : Span) → NamesReady rs src n a → Going rs src rs at n a p at n
-going-start rs src at n a p v = record { same = refl; ready = v; long = refl }
+pub going-start : (rs src : List ℕ) (at n a : ℕ) (p : Span) → NamesReady rs src n a → Heads src at (p .start) → Going rs src rs at n a p at n
+going-start rs src at n a p v h = record { same = refl; ready = v; long = refl; heads = h }
 
 -- the label that is met
 pub record Met (s : List ℕ) (i b e j : ℕ) : Type 0 where
@@ -159,6 +161,7 @@ module _ (rs₀ src rs : List ℕ) (at n a : ℕ) (p : Span) (i held : ℕ) (g :
         same = sym (sym (ap (λ (y : LabelsAdded). told rs′ src y >>= addLabels a p (labelsAt src j)) z) ∙ rest);
         ready = record { table = k .table m z; size = g .ready .size; address = g .ready .address };
         long = l ∙ g .long;
+        heads = let u = it in rw (u .onward) (heads-on src i (p .start) (nameBetween src b e) (u .named) (g .heads));
       }
 
       pub going-refused : (u c d v w : ℕ) → r ≡ Refused u c d v w → NamesAdded rs₀ src rs′ at n a p r

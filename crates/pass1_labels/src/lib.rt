@@ -17,6 +17,7 @@ ghost use Rattle.rules.specs.Statements.{Stmt, Target, labelsAt};
 ghost use Rattle.rules.specs.Passes.{labelled, directed};
 ghost use Rattle.pass1_labels.specs.Naming.{NameReady, NameAdded, NamesReady, NamesAdded};
 ghost use Rattle.parse_labels.specs.Names.{nameBetween, Between};
+ghost use Rattle.parse_labels.specs.Walk.{Heads};
 ghost use Rattle.pass1_labels.specs.Tables.{stepOf, Lent, Stepping};
 
 // The table has so many rows, with what was added; or the refusal with its number and both spans.
@@ -86,7 +87,7 @@ pub fn add_label(
     }
 }
 
-// All labels from a place on, at an address, for a statement from `start` up to `end`.
+// All labels from a place on, at an address, for the statement after them, from `start` up to `end`.
 pub fn add_labels(
     src: &[u8],
     rows: &mut [u32],
@@ -96,13 +97,13 @@ pub fn add_labels(
     start: usize,
     end: usize,
 ) -> LabelsAdded
-    requires { ⌜ NamesReady (now rows) (now src) n address ⌝ }
+    requires { ⌜ NamesReady (now rows) (now src) n address × Heads (now src) at start ⌝ }
     ensures { λ r. ⌜ NamesAdded (now (rows .entry)) (now (src .entry)) (now (rows .exit)) at n address (span start end) r ⌝ }
 {
     let mut i = at;
     let mut held = n;
     loop {
-        match parse_labels::next_label(src, i) {
+        match parse_labels::label_before(src, i, start) {
             NextLabel::Label {
                 start: from,
                 end: to,
@@ -154,7 +155,7 @@ pub fn step_of(o: Pass1State, answer: LabelsAdded) -> Pass1Step
     }
 }
 
-// The labels from a place on, for a statement from `start` up to `end`: 20 at the first where no block is open.
+// The labels from a place on, for the statement after them, from `start` up to `end`: 20 at the first where no block is open.
 pub fn define_labels(
     src: &[u8],
     rows: &mut [u32],
@@ -163,7 +164,7 @@ pub fn define_labels(
     start: usize,
     end: usize,
 ) -> Pass1Step
-    requires { ⌜ Lent (now rows) (now src) o ⌝ }
+    requires { ⌜ Lent (now rows) (now src) o × Heads (now src) at start ⌝ }
     ensures { λ r. ⌜ Stepping (now (rows .entry)) (now (src .entry)) (now (rows .exit)) o (λ v. labelled (labelsAt (now (src .entry)) at) (span start end) v) r ⌝ }
 {
     if o.inside {

@@ -3,7 +3,7 @@ use Prim.Native.Nat.{_-_}
 use lib.ListN.{length}
 use borrow.Author.Needs.{needs}
 use Rattle.parse.proofs.All.{rest-less}
-use Rattle.pass1.proofs.Loop.{Going, going-start, going-stands, going-counts, going-on, going-refused, going-end, going-stop}
+use Rattle.pass1.proofs.Loop.{Going, going-start, going-stands, going-heads, going-counts, going-on, going-refused, going-end, going-stop}
 use Rattle.pass1.proofs.Steps.{counts}
 use Rattle.pass1.proofs.pass_one.Statement.{statement}
 use Rattle.pass1.proofs.pass_one.Tie as tie
@@ -27,7 +27,7 @@ loop-again : tie.Need-loop-again Inv-loop μ-loop
 loop-again c = going-counts _ _ _ _ _ _ _ (c .before .before .before .before .before .before .before .before .loop .inv) _ (c .before .before .before .before .before .before .before .next-statement .ensures) _ (c .before .before .before .before .before .st .given .1) (counts _ _ (c .before .before .before .only-counts .ensures) (c .before .before .if1 .taken)) _ (c .counted .ensures)
 
 step-requires : tie.Need-step-requires Inv-loop μ-loop
-step-requires c κs = (search needs, going-stands _ _ _ _ _ _ _ (c .before .before .before .before .before .before .before .before .loop .inv) _ (c .before .before .before .before .before .before .before .next-statement .ensures) _ (c .before .before .before .before .before .st .given .1))
+step-requires c κs = (search needs, going-stands _ _ _ _ _ _ _ (c .before .before .before .before .before .before .before .before .loop .inv) _ (c .before .before .before .before .before .before .before .next-statement .ensures) _ (c .before .before .before .before .before .st .given .1), going-heads _ _ _ _ _ _ _ (c .before .before .before .before .before .before .before .before .loop .inv) _ (c .before .before .before .before .before .before .before .next-statement .ensures) _ (c .before .before .before .before .before .st .given .1))
 
 loop-less-2 : tie.Need-loop-less-2 Inv-loop μ-loop
 loop-less-2 c = rest-less _ _ _ (c .before .before .before .before .before .before .before .before .before .before .before .before .before .before .before .next-statement .ensures) _ (c .before .before .before .before .before .before .before .before .before .before .before .before .before .st .given .1)

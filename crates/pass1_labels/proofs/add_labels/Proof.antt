@@ -14,22 +14,25 @@ abbrev μ-loop : tie.MeasureT-loop
 μ-loop src rows₀ at n address start end i₀ held₀ rows i held = length src - i
 
 loop-holds : tie.Need-loop-holds Inv-loop μ-loop
-loop-holds c = going-start _ _ _ _ _ _ (c .before .before .pre)
+loop-holds c = going-start _ _ _ _ _ _ (c .before .before .pre .0) (c .before .before .pre .1)
+
+label-before-requires : tie.Need-label-before-requires Inv-loop μ-loop
+label-before-requires c κs = c .loop .inv .heads
 
 add-label-requires : tie.Need-add-label-requires Inv-loop μ-loop
-add-label-requires c κs = going-ready _ _ _ _ _ _ _ _ _ (c .before .before .before .before .before .loop .inv) _ (c .before .before .before .before .next-label .ensures) _ _ _ (c .before .before .from .given .1)
+add-label-requires c κs = going-ready _ _ _ _ _ _ _ _ _ (c .before .before .before .before .before .loop .inv) _ (c .before .before .before .before .label-before .ensures) _ _ _ (c .before .before .from .given .1)
 
 loop-less : tie.Need-loop-less Inv-loop μ-loop
-loop-less c = going-less _ _ _ _ _ _ _ _ _ (c .before .before .before .before .before .before .before .before .before .before .before .loop .inv) _ (c .before .before .before .before .before .before .before .before .before .before .next-label .ensures) _ _ _ (c .before .before .before .before .before .before .before .before .from .given .1)
+loop-less c = going-less _ _ _ _ _ _ _ _ _ (c .before .before .before .before .before .before .before .before .before .before .before .loop .inv) _ (c .before .before .before .before .before .before .before .before .before .before .label-before .ensures) _ _ _ (c .before .before .before .before .before .before .before .before .from .given .1)
 
 loop-again : tie.Need-loop-again Inv-loop μ-loop
-loop-again c = going-on _ _ _ _ _ _ _ _ _ (c .before .before .before .before .before .before .before .before .before .before .before .loop .inv) _ (c .before .before .before .before .before .before .before .before .before .before .next-label .ensures) _ _ _ (c .before .before .before .before .before .before .before .before .from .given .1) _ _ (c .before .before .before .before .before .add-label .ensures) _ (c .before .answer .given .1) (search needs)
+loop-again c = going-on _ _ _ _ _ _ _ _ _ (c .before .before .before .before .before .before .before .before .before .before .before .loop .inv) _ (c .before .before .before .before .before .before .before .before .before .before .label-before .ensures) _ _ _ (c .before .before .before .before .before .before .before .before .from .given .1) _ _ (c .before .before .before .before .before .add-label .ensures) _ (c .before .answer .given .1) (search needs)
 
 returns : tie.Need-returns Inv-loop μ-loop
-returns c = going-refused _ _ _ _ _ _ _ _ _ (c .before .before .before .before .before .before .before .before .before .before .loop .inv) _ (c .before .before .before .before .before .before .before .before .before .next-label .ensures) _ _ _ (c .before .before .before .before .before .before .before .from .given .1) _ _ (c .before .before .before .before .add-label .ensures) _ _ _ _ _ (c .enum-told .given .1)
+returns c = going-refused _ _ _ _ _ _ _ _ _ (c .before .before .before .before .before .before .before .before .before .before .loop .inv) _ (c .before .before .before .before .before .before .before .before .before .label-before .ensures) _ _ _ (c .before .before .before .before .before .before .before .from .given .1) _ _ (c .before .before .before .before .add-label .ensures) _ _ _ _ _ (c .enum-told .given .1)
 
 returns-2 : tie.Need-returns-2 Inv-loop μ-loop
-returns-2 c = going-done _ _ _ _ _ _ _ _ _ (c .before .before .before .loop .inv) _ (c .before .before .next-label .ensures) (c .enum-told2 .given .1)
+returns-2 c = going-done _ _ _ _ _ _ _ _ _ (c .before .before .before .loop .inv) _ (c .before .before .label-before .ensures) (c .enum-told2 .given .1)
 
 pub add-labels-spec : {M : Type 1} → statement M
 add-labels-spec =
@@ -38,7 +41,7 @@ add-labels-spec =
     Inv-loop
     μ-loop
     loop-holds
-    (λ c κs. search needs)
+    label-before-requires
     (λ c. search needs)
     add-label-requires
     (λ c. search needs)
