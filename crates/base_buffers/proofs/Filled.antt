@@ -4,9 +4,9 @@ use mathlib.Core.Path.{_≡_, refl, ap, _∙_}
 use mathlib.Core.List.{List, _++_, append-nil}
 use native.Mathlib.Omega.{arith}
 use borrow.Author.Fill.{fill-more}
-use lib.ListN.{length, drop, set, length-set}
+use lib.ListN.{length, drop, set, length-set, length-replicate}
 use lib.Seq.{drop-length}
-use Rattle.rules.specs.Buffers.{zeros}
+use Rattle.rules.specs.Buffers.{zeros, lay}
 
 pub record Filled (b₀ b : List ℕ) (i : ℕ) : Type 0 where
   pub within : i ≤ length b₀
@@ -28,3 +28,7 @@ pub filled-all : {b₀ b : List ℕ} {i : ℕ} → Filled b₀ b i → length b 
 filled-all {b₀} {b} {i} f l =
     let e : i ≡ length b₀ = omega arith in
     f .here ∙ (rw (e, drop-length, append-nil))
+
+-- what is laid after a clearing is laid in a buffer as long as the one that was lent
+pub laid-after : (l out z r : List ℕ) → r ≡ lay l (length z) → z ≡ zeros (length out) → r ≡ lay l (length out)
+laid-after l out z r q e = q ∙ ap (lay l) (ap length e ∙ length-replicate (length out) 0)

@@ -54,12 +54,12 @@ gap-more {t₀} {n} {w} {t} {i} g room pos =
     }
 
 -- a gap filled is a row inserted
-pub gap-filled : (t : List ℕ) (n k : ℕ) (vs : List ℕ) → k ≤ n → n + length vs ≤ length t → sets (gapped t n (length vs) k) k vs ≡ inserted t n k vs
-gap-filled t n k vs le room =
-    let w : ℕ = length vs in
+gap-filled : (g t : List ℕ) (n k : ℕ) (vs : List ℕ) → g ≡ gapped t n (length vs) k → k ≤ n → n + length vs ≤ length t → sets g k vs ≡ inserted t n k vs
+gap-filled g t n k vs e le room =
     let r : List ℕ = take (n - k) (drop k t) ++ drop (n + length vs) t in
     let h : length (take (k + length vs) t) ≡ k + length vs = length-take-le (k + length vs) t (omega arith) in
-    sets-eq vs (take (k + length vs) t ++ r) k (omega (arith, length-append (take (k + length vs) t) r))
+    ap (λ (x : List ℕ). sets x k vs) e
+    ∙ sets-eq vs (take (k + length vs) t ++ r) k (omega (arith, length-append (take (k + length vs) t) r))
     ∙ ap (λ (p : List ℕ). p ++ vs ++ drop (k + length vs) (take (k + length vs) t ++ r)) (take-append-le k (take (k + length vs) t) r (omega arith) ∙ take-take k (k + length vs) t (omega arith))
     ∙ ap (λ (q : List ℕ). take k t ++ vs ++ q) (drop-at (take (k + length vs) t) r (k + length vs) h)
 
@@ -69,9 +69,9 @@ four-filled g t n k a f s l e h r =
     let e1 : k + 1 ≡ suc k = omega arith in
     let e2 : k + 2 ≡ suc (suc k) = omega arith in
     let e3 : k + 3 ≡ suc (suc (suc k)) = omega arith in
-    rw (e1, e2, e3) (ap (λ (x : List ℕ). sets x k (a ∷ f ∷ s ∷ l ∷ [])) e ∙ gap-filled t n k (a ∷ f ∷ s ∷ l ∷ []) h r)
+    rw (e1, e2, e3) (gap-filled g t n k (a ∷ f ∷ s ∷ l ∷ []) e h r)
 
 pub two-filled : (g t : List ℕ) (n k a b : ℕ) → g ≡ gapped t n 2 k → k ≤ n → n + 2 ≤ length t → set (set g k a) (k + 1) b ≡ inserted t n k (a ∷ b ∷ [])
 two-filled g t n k a b e h r =
     let e1 : k + 1 ≡ suc k = omega arith in
-    rw e1 (ap (λ (x : List ℕ). sets x k (a ∷ b ∷ [])) e ∙ gap-filled t n k (a ∷ b ∷ []) h r)
+    rw e1 (gap-filled g t n k (a ∷ b ∷ []) e h r)

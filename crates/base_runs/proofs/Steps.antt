@@ -8,7 +8,7 @@ use native.Mathlib.Omega.{arith}
 use lib.Dec.{ltb, eqb}
 use lib.ListN.{length, getD, take, drop, length-drop}
 use lib.Seq.{getD-drop, take-length}
-use Rattle.rules.proofs.Bools.{never}
+use Rattle.rules.proofs.Bools.{and-left, and-right}
 use Rattle.base_text.specs.Runs.{plain, inClass, from, runEnd}
 use Rattle.base_text.specs.declared.Class.{Class}
 use Rattle.base_text.specs.declared.Class.the-variants.{Ascii, Plain}
@@ -18,17 +18,9 @@ use Rattle.base_runs.specs.Every.{every}
 
 -- A LOOP OVER ALL BYTES: what the first i are, beside the rest
 
-and-right : (a : Bool) → (a && true) ≡ a
-and-right true = refl
-and-right false = refl
-
-and-first : (a b : Bool) → (a && b) ≡ true → a ≡ true
-and-first true b e = refl
-and-first false b e = never cc
-
-and-second : (a b : Bool) → (a && b) ≡ true → b ≡ true
-and-second true b e = e
-and-second false b e = never cc
+and-true : (a : Bool) → (a && true) ≡ a
+and-true true = refl
+and-true false = refl
 
 and-and : (a b c : Bool) → ((a && b) && c) ≡ (a && (b && c))
 and-and true b c = refl
@@ -49,7 +41,7 @@ module _ (k : Class) (s : List ℕ) where
 
   pub looked-end : {i : ℕ} {a : Bool} → Looked k s a i → length s ≤ i → a ≡ every k s
   unfolding every
-  looked-end {i} {a} l h = sym (and-right a) ∙ sym (ap (λ (x : List ℕ). a && every k x) (from-end s i h)) ∙ l .same
+  looked-end {i} {a} l h = sym (and-true a) ∙ sym (ap (λ (x : List ℕ). a && every k x) (from-end s i h)) ∙ l .same
 
 pub ascii-next : (s : List ℕ) {i : ℕ} {a : Bool} → Looked Ascii s a i → i < length s → Looked Ascii s (a && ltb (getD s i 0) 128) (i + 1)
 unfolding inClass
@@ -90,8 +82,8 @@ every-first : (k : Class) (s : List ℕ) (n j : ℕ) → every k (take n s) ≡ 
 unfolding every
 every-first k s zero j e h l = absurd (not-suc-le-zero h)
 every-first k [] (suc n) j e h l = absurd (not-suc-le-zero l)
-every-first k (b ∷ s) (suc n) zero e h l = and-first (inClass k b) _ e
-every-first k (b ∷ s) (suc n) (suc j) e h l = every-first k s n j (and-second (inClass k b) _ e) (le-of-suc-le-suc h) (le-of-suc-le-suc l)
+every-first k (b ∷ s) (suc n) zero e h l = and-left (inClass k b) _ e
+every-first k (b ∷ s) (suc n) (suc j) e h l = every-first k s n j (and-right (inClass k b) _ e) (le-of-suc-le-suc h) (le-of-suc-le-suc l)
 
 run-on : (k : Class) (s : List ℕ) (i n : ℕ) → i + n ≤ length s → ((j : ℕ) → j < n → inClass k (getD s (i + j) 0) ≡ true) → runEnd k s i ≡ runEnd k s (i + n)
 run-on k s i zero l h = let e : i + 0 ≡ i = omega arith in rw e

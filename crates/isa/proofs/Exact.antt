@@ -187,8 +187,7 @@ module _
         ap (λ (x : ImmOrReg). some (meant (A (at9 w) (at6 w) x))) (sym e) ∙ reg-shows w p (even w (eqb-false _ _ t)) (eqb-true _ _ u))
         (λ u.
         let h : Malformed ≡ Operand o = rw (t, u) at q in
-        let z : _≡_ {A = ℕ} 0 1 = cc in
-        absurd (omega arith)))
+        never cc))
 
     operand-hides : (w : ℕ) → w / 4096 ≡ k → lastOf w ≡ Malformed → none ≡ disassemble w
     unfolding if_then_else_
@@ -196,14 +195,12 @@ module _
         by-test (eqb (w / 32 % 2) 1)
         (λ t.
         let h : Operand (Imm (low 5 w)) ≡ Malformed = rw t at q in
-        let z : _≡_ {A = ℕ} 0 1 = cc in
-        absurd (omega arith))
+        never cc)
         (λ t.
         by-test (eqb (w / 8 % 4) 0)
         (λ u.
         let h : Operand (Reg (w % 8)) ≡ Malformed = rw (t, u) at q in
-        let z : _≡_ {A = ℕ} 0 1 = cc in
-        absurd (omega arith))
+        never cc)
         (λ u. reg-hides w p (even w (eqb-false _ _ t)) (eqb-false _ _ u)))
 
 pub add-shows : (w : ℕ) (x : Last) (o : ImmOrReg) → w / 4096 ≡ 1 → x ≡ lastOf w → x ≡ Operand o → some (meant (ADD (at9 w) (at6 w) o)) ≡ disassemble w

@@ -198,10 +198,7 @@ module _ (a : ℕ) (n : Name) (p : Span) (o c : Pass1State) (h : Kept o) (x : Ou
   relocs′ = insert natOrder newer (a, n) (o .relocs)
 
   few-after : (b d : Bool) → has (look natOrder (o .relocs) a) ≡ b → ltb (length (o .relocs)) relocRoom ≡ d → (b || d) ≡ true → length (insert natOrder newer (a, n) (o .relocs)) ≤ relocRoom
-  few-after true d q r e = rw (length-same natOrder newer (a, n) (o .relocs) (h .relocs-up) (λ z. absurd (true-false (sym q ∙ ap has z)))) (h .few-relocs)
-    where
-      true-false : true ≡ false → ⊥
-      true-false e = never cc
+  few-after true d q r e = rw (length-same natOrder newer (a, n) (o .relocs) (h .relocs-up) (λ z. never (cc (sym q ∙ ap has z)))) (h .few-relocs)
   few-after false true q r e = omega (arith, ltb-true (length (o .relocs)) relocRoom r, length-insert natOrder newer (a, n) (o .relocs))
   few-after false false q r e = never cc
 

@@ -32,9 +32,6 @@ R-letter : letter 82 ≡ true
 unfolding letter
 R-letter = refl
 
-no-way : {A : Type 0} → true ≡ false → A
-no-way e = never cc
-
 -- a letter is no digit, hash or minus
 letter-low : (c : ℕ) → letter c ≡ true → 65 ≤ c
 unfolding letter
@@ -44,7 +41,7 @@ letter-low c e = go (leb 65 c) refl (leb 97 c) refl (eqb c 95) refl e
     go true a b p u q e = leb-true 65 c a
     go false a true p u q e = let l : 97 ≤ c = leb-true 97 c p in omega arith
     go false a false p true q e = let l : c ≡ 95 = eqb-true c 95 q in omega arith
-    go false a false p false q e = no-way (sym e)
+    go false a false p false q e = never cc
 
 module _ (c : ℕ) (s : List ℕ) where
   module _ (l : letter c ≡ true) where
@@ -77,8 +74,8 @@ module _ (c : ℕ) (s : List ℕ) where
   no-upper k y n = ne-eqb (upper c) k (go (within "a" "z" c) refl)
     where
       go : (b : Bool) → within "a" "z" c ≡ b → (if b then c - 32 else c) ≡ k → ⊥
-      go true e h = no-way (sym (small c e) ∙ n)
-      go false e h = no-way (sym (ap letter h ∙ y) ∙ n)
+      go true e h = never (cc (small c e))
+      go false e h = never (cc (ap letter h))
 
   pub digit-first : digit c ≡ true → tokenAt c s ≡ numberAfter 0 dec (c ∷ s)
   unfolding tokenAt if_then_else_
@@ -149,7 +146,7 @@ space-first c s e = go (eqb c 32) refl (eqb c 9) refl e
     go : (a : Bool) → eqb c 32 ≡ a → (b : Bool) → eqb c 9 ≡ b → (a || b) ≡ true → tokenAt c s ≡ match blank (1 + length (while space s))
     go true a b p e = rw (eqb-true c 32 a)
     go false a true p e = rw (eqb-true c 9 p)
-    go false a false p e = no-way (sym e)
+    go false a false p e = never cc
 
 module _ (s : List ℕ) (at : ℕ) where
   one-space : runEnd class.Space s (at + 1) ≡ at + (1 + length (while space (drop (at + 1) s)))

@@ -1,12 +1,12 @@
 -- The table's rule: the search in it finds what a word is. Assumes nothing.
 use Prim.Native.Nat.{ℕ, zero, suc, _+_, _-_, _<_, _≤_}
 use mathlib.Core.Path.{_≡_, refl, sym, _∙_, ap}
-use mathlib.Core.Bool.{Bool, true, false, _&&_, false≢true}
+use mathlib.Core.Bool.{Bool, true, false, _&&_}
 use mathlib.Core.List.{List, [], _∷_, map}
 use mathlib.Core.Logic.{_⊎_, inl, inr, ⊎-elim}
 use native.Mathlib.Omega.{arith}
-use borrow.Author.Tests.{eqb-true, leb-true, ltb-false, lt-ltb, le-ltb}
-use lib.Dec.{eqb, leb, ltb}
+use borrow.Author.Tests.{leb-true, ltb-false, lt-ltb, le-ltb}
+use lib.Dec.{leb, ltb}
 use lib.ListN.{length, getD, length-map}
 use Rattle.rules.specs.Base.{if_then_else_, same}
 use Rattle.rules.specs.Tokens.{upper}
@@ -16,18 +16,9 @@ use Rattle.lex_reserved.specs.Table.{words, starts, row, firstRow, nameO
 use Rattle.lex_reserved.specs.Ident.{placeFrom, identOf}
 use Rattle.lex_reserved.specs.declared.Ident.{Ident}
 use Rattle.lex_reserved.specs.declared.Ident.the-variants.{Reserved, Label}
+use Rattle.rules.proofs.Named.{same-true}
 use Rattle.rules.proofs.Instructions.{maps-at}
 use Rattle.rules.proofs.Bools.{and-left, and-right}
-
-same-is : (x y : List ℕ) → same x y ≡ true → x ≡ y
-same-is [] [] t = refl
-same-is [] (b ∷ y) t = absurd (false≢true t)
-same-is (a ∷ x) [] t = absurd (false≢true t)
-same-is (a ∷ x) (b ∷ y) t = go (eqb a b) refl (same-is x y) t
-  where
-    go : (e : Bool) → eqb a b ≡ e → (same x y ≡ true → x ≡ y) → (e && same x y) ≡ true → a ∷ x ≡ b ∷ y
-    go true e f t = let p : a ≡ b = eqb-true a b e in let q : x ≡ y = f t in cc
-    go false e f t = absurd (false≢true t)
 
 -- the computed test: each row's word is the instruction of its code
 each-row : map (λ (r : List ℕ). identOf (nameOf r)) words ≡ map (λ (r : List ℕ). Reserved (codeOf r)) words
@@ -53,7 +44,7 @@ search-fine zero i w h = inl refl
 search-fine (suc n) i w h = go (same w (nameOf (row i))) refl (search-fine n (i + 1) w (omega arith))
   where
     go : (t : Bool) → same w (nameOf (row i)) ≡ t → Fine w (findIn n (i + 1) w) → Fine w (if t then Reserved (codeOf (row i)) else findIn n (i + 1) w)
-    go true e f = inr (sym (row-right i (omega arith)) ∙ ap identOf (sym (same-is w (nameOf (row i)) e)))
+    go true e f = inr (sym (row-right i (omega arith)) ∙ ap identOf (sym (same-true w (nameOf (row i)) e)))
     go false e f = f
 
 -- the rows of a letter lie in the table
@@ -91,16 +82,16 @@ searched-fine w =
     let hi : c ≤ 90 = ltb-false _ _ h in
     search-fine (firstRow (c + 1) - firstRow c) (firstRow c) w (omega (arith, first-next c lo hi, next-last c lo hi))))))
 
--- a word is a label, or the search finds it
-place-fine : (w : List ℕ) (k : ℕ) (rs : List Row) → map (λ (r : Row). searched (r .key)) rs ≡ map (λ (r : Row). identOf (r .key)) rs → (placeFrom k w rs ≡ Label) ⊎ (searched w ≡ identOf w)
+-- a word is a label, or is found by whatever finds the keys of these rows
+pub place-fine : (find : List ℕ → Ident) (w : List ℕ) (k : ℕ) (rs : List Row) → map (λ (r : Row). find (r .key)) rs ≡ map (λ (r : Row). identOf (r .key)) rs → (placeFrom k w rs ≡ Label) ⊎ (find w ≡ identOf w)
 unfolding placeFrom if_then_else_
-place-fine w k [] e = inl refl
-place-fine w k (r ∷ rs) e = go (same w (r .key)) refl (place-fine w (k + 1) rs (cc))
+place-fine find w k [] e = inl refl
+place-fine find w k (r ∷ rs) e = go (same w (r .key)) refl (place-fine find w (k + 1) rs (cc))
   where
-    go : (t : Bool) → same w (r .key) ≡ t → (placeFrom (k + 1) w rs ≡ Label) ⊎ (searched w ≡ identOf w) → ((if t then Reserved k else placeFrom (k + 1) w rs) ≡ Label) ⊎ (searched w ≡ identOf w)
+    go : (t : Bool) → same w (r .key) ≡ t → (placeFrom (k + 1) w rs ≡ Label) ⊎ (find w ≡ identOf w) → ((if t then Reserved k else placeFrom (k + 1) w rs) ≡ Label) ⊎ (find w ≡ identOf w)
     go true q f =
-        let p : searched (r .key) ≡ identOf (r .key) = cc in
-        inr (rw (same-is w (r .key) q) p)
+        let p : find (r .key) ≡ identOf (r .key) = cc in
+        inr (rw (same-true w (r .key) q) p)
     go false q f = f
 
 pub searched-right : (w : List ℕ) → searched w ≡ identOf w
@@ -109,7 +100,7 @@ searched-right w =
     ⊎-elim
     (λ l. ⊎-elim (λ n. n ∙ sym l) (λ e. e) (searched-fine w))
     (λ e. e)
-    (place-fine w 0 instructions each-key)
+    (place-fine searched w 0 instructions each-key)
 
 first-upper : (s : List ℕ) → 2 ≤ length s → getD (map upper s) 0 0 ≡ upper (getD s 0 0)
 first-upper [] h = absurd (omega arith)

@@ -1,23 +1,23 @@
 -- The row of a word's slot says what the word is. Assumes nothing.
 use Prim.Native.Nat.{ℕ, _+_, _*_, _/_, _%_, _<_, _≤_}
 use mathlib.Core.Path.{_≡_, refl, sym, _∙_}
-use mathlib.Core.Bool.{Bool, true, false, _&&_}
+use mathlib.Core.Bool.{Bool, true, false}
 use mathlib.Core.List.{List, [], _∷_, map}
-use mathlib.Core.Logic.{_⊎_, inl, inr, ⊎-elim}
+use mathlib.Core.Logic.{⊎-elim}
 use native.Mathlib.Omega.{arith}
-use borrow.Author.Tests.{eq-eqb, ne-eqb, leb-true}
-use lib.Dec.{eqb, leb}
-use lib.ListN.{length, getD, length-map}
+use borrow.Author.Tests.{eq-eqb, ne-eqb}
+use lib.Dec.{eqb}
+use lib.ListN.{length, getD}
 use Rattle.rules.specs.Base.{if_then_else_, same}
 use Rattle.rules.specs.Tokens.{upper}
 use Rattle.rules.specs.Words.{Row, instructions}
 use Rattle.rules.proofs.Instructions.{instructions-count}
-use Rattle.rules.proofs.Bools.{never, and-left, and-right}
-use Rattle.rules.proofs.Named.{same-true}
+use Rattle.rules.proofs.Bools.{never}
 use Rattle.lex_reserved.specs.Slots.{keyOf, slotOf, rowFrom, slotRow}
 use Rattle.lex_reserved.specs.Ident.{placeFrom, identOf}
 use Rattle.lex_reserved.specs.declared.Ident.{Ident}
 use Rattle.lex_reserved.specs.declared.Ident.the-variants.{Reserved, Label}
+use Rattle.lex_reserved.proofs.Rule.{place-fine}
 use Rattle.lex_reserved.proofs.Keys.{ofBytes, upper-bytes, key-some, key-same}
 
 -- THE LAST ARM OF THE MATCH: P, and the slot is none of these words'
@@ -52,18 +52,6 @@ each-bytes : map (λ (r : Row). ofBytes (r .key)) instructions ≡ map (λ (r : 
 unfolding instructions
 each-bytes = refl
 
--- a word is a label, or it is found
-place-fine : (w : List ℕ) (k : ℕ) (rs : List Row) → map (λ (r : Row). looked (r .key)) rs ≡ map (λ (r : Row). identOf (r .key)) rs → (placeFrom k w rs ≡ Label) ⊎ (looked w ≡ identOf w)
-unfolding placeFrom if_then_else_
-place-fine w k [] e = inl refl
-place-fine w k (r ∷ rs) e = go (same w (r .key)) refl (place-fine w (k + 1) rs (cc))
-  where
-    go : (t : Bool) → same w (r .key) ≡ t → (placeFrom (k + 1) w rs ≡ Label) ⊎ (looked w ≡ identOf w) → ((if t then Reserved k else placeFrom (k + 1) w rs) ≡ Label) ⊎ (looked w ≡ identOf w)
-    go true q f =
-        let p : looked (r .key) ≡ identOf (r .key) = cc in
-        inr (rw (same-true w (r .key) q) p)
-    go false q f = f
-
 -- a label's key is not the one in its slot
 key-other : (a b : List ℕ) (k : ℕ) → k < 256 → ofBytes a ≡ true → ofBytes b ≡ true → same a b ≡ false → byRow (keyOf a) (keyOf b * 256 + k) ≡ Label
 unfolding if_then_else_
@@ -90,7 +78,7 @@ looked-right w p =
     ⊎-elim
     (λ l. label-fine w 0 (slotOf (keyOf w)) instructions (omega (arith, instructions-count)) p each-bytes l ∙ sym l)
     (λ e. e)
-    (place-fine w 0 instructions each-word)
+    (place-fine looked w 0 instructions each-word)
 
 -- THE WAY THROUGH THE CODE
 module _ (s : List ℕ) {key slot row : ℕ} (e : key ≡ keyOf (map upper s)) (f : slot ≡ slotOf key) (g : row ≡ slotRow slot) where

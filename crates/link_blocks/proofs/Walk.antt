@@ -3,7 +3,6 @@ use mathlib.Core.Path.{_≡_, refl, sym, _∙_, ap}
 use mathlib.Core.Bool.{Bool, true, false, _&&_, _||_}
 use mathlib.Core.List.{List, [], _∷_}
 use Prim.Native.Nat.{ℕ, zero, suc, _+_, _-_, _≤_, _<_, suc-le-suc, zero-le}
-use native.Mathlib.Decide.{decLt}
 use native.Mathlib.Omega.{arith}
 use lib.Dec.{ltb, leb}
 use borrow.Author.Tests.{le-ltb, lt-ltb, leb-true, leb-false}
@@ -11,19 +10,11 @@ use Rattle.rules.specs.Tables.{Table, any}
 use Rattle.rules.specs.Passes.{rangesOverlap}
 use Rattle.rules.specs.Buffers.{tab, headRow, BlocksOk}
 use Rattle.rules.proofs.Merging.{rowsFrom, rows-all, rows-none, rows-next}
+use Rattle.object.proofs.Blocks.{starts-up}
 use Rattle.link_blocks.specs.Meeting.{BlockRows, before, touch, meeting}
 
 pub blocks-rows : {n w : ℕ} {bs : List ℕ} → BlocksOk n w bs → BlockRows n bs
 blocks-rows v = record { room = v .room; rows = v .rows }
-
--- starts rise
-pub starts-up : (n : ℕ) (bs : List ℕ) → BlockRows n bs → (j i : ℕ) → j ≤ i → i < n → headRow bs j .0 ≤ headRow bs i .0
-starts-up n bs v j zero h l = let e : j ≡ 0 = omega arith in rw e (omega arith)
-starts-up n bs v j (suc i) h l = go (decLt j (suc i)) (λ p. starts-up n bs v j i p (omega arith))
-  where
-    go : Dec (j < suc i) → (j ≤ i → headRow bs j .0 ≤ headRow bs i .0) → headRow bs j .0 ≤ headRow bs (suc i) .0
-    go (yes p) ih = let q = ih (omega arith) in omega (arith, v .rows (suc i) l .after)
-    go (no p) ih = let e : j ≡ suc i = omega arith in rw e (omega arith)
 
 -- TESTS
 
@@ -105,7 +96,7 @@ module _ {na nb i j : ℕ} {a b : List ℕ} (t : Left na a nb b i j) where
           t .same ∙ (ap (λ (r : Table ℕ ℕ). meeting r (rowsFrom j nb (headRow b))) (rows-next i na (headRow a) h)
           ∙ ap (λ (c : Bool). c || meeting (rowsFrom (i + 1) na (headRow a)) (rowsFrom j nb (headRow b)))
           (any-none (touch (headRow a i)) (nb - j) (λ x. headRow b (j + x))
-          (λ x y. touch-before (headRow a i) (headRow b (j + x)) (let w = starts-up nb b (t .others) j (j + x) (omega arith) (omega arith) in omega (arith, before-true (headRow a i) (headRow b j) (sym p ∙ e))))));
+          (λ x y. touch-before (headRow a i) (headRow b (j + x)) (let w = starts-up nb b (t .others .rows) j (j + x) (omega arith) (omega arith) in omega (arith, before-true (headRow a i) (headRow b j) (sym p ∙ e))))));
     }
 
     pub left-second : r ≡ true → r ≡ before (headRow b j) (headRow a i) → Left na a nb b i (j + 1)
@@ -120,7 +111,7 @@ module _ {na nb i j : ℕ} {a b : List ℕ} (t : Left na a nb b i j) where
           ∙ any-same (λ g. any (touch g) (headRow b j ∷ rowsFrom (j + 1) nb (headRow b))) (λ g. any (touch g) (rowsFrom (j + 1) nb (headRow b))) (na - i) (λ x. headRow a (i + x))
           (λ x y.
           ap (λ (c : Bool). c || any (touch (headRow a (i + x))) (rowsFrom (j + 1) nb (headRow b)))
-          (touch-behind (headRow a (i + x)) (headRow b j) (let w = starts-up na a (t .rows) i (i + x) (omega arith) (omega arith) in omega (arith, before-true (headRow b j) (headRow a i) (sym e ∙ f))))));
+          (touch-behind (headRow a (i + x)) (headRow b j) (let w = starts-up na a (t .rows .rows) i (i + x) (omega arith) (omega arith) in omega (arith, before-true (headRow b j) (headRow a i) (sym e ∙ f))))));
     }
 
     pub left-met : {r′ : Bool} → r ≡ false → r ≡ before (headRow a i) (headRow b j) → r′ ≡ false → r′ ≡ before (headRow b j) (headRow a i) → true ≡ meeting (tab na (headRow a)) (tab nb (headRow b))

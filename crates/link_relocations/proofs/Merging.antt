@@ -195,6 +195,3 @@ module _ {n : ℕ} {rs ns : List ℕ} {m : ℕ} {qs os out₀ out : List ℕ} {i
 pub both-after : {n : ℕ} {rs ns : List ℕ} {m : ℕ} {qs os out z : List ℕ} → Both n rs ns m qs os out → z ≡ zeros (length out) → Both n rs ns m qs os z
 both-after {out = out} b e =
     record { first = b .first; second = b .second; apart = b .apart; few = b .few; room = omega (arith, b .room, ap length e, length-replicate {A = ℕ} (length out) 0) }
-
-pub laid-after : (l out z r : List ℕ) → r ≡ lay l (length z) → z ≡ zeros (length out) → r ≡ lay l (length out)
-laid-after l out z r q e = q ∙ ap (lay l) (ap length e ∙ length-replicate (length out) 0)

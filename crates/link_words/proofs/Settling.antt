@@ -18,7 +18,7 @@ use Rattle.rules.proofs.Merging.{rowsFrom, rows-all, rows-none, rows-next}
 use Rattle.rules.proofs.Sound.{sum-front}
 use Rattle.link_notes.specs.Notes.{openMark, noteRow, carried, carriedRows}
 use Rattle.link_blocks.specs.Meeting.{BlockRows}
-use Rattle.link_blocks.proofs.Walk.{starts-up}
+use Rattle.object.proofs.Blocks.{starts-up}
 use Rattle.link_blocks.proofs.Filled.{sum-under}
 use Rattle.link_words.specs.Settled.{endsBefore, wordPlace, WordAt, placeOf, settledWord, settledWords, SettleReady}
 
@@ -164,7 +164,7 @@ module _ {n nb : ℕ} {rs notes bs ws₀ : List ℕ} where
 
         starts : headRow bs row .0 ≤ getD rs (k * 2) 0
         starts = elim (decLt row (t .ready .inside k h .row)) [
-          | yes y ↦ absurd (let u = starts-up nb bs (t .ready .rows) (suc row) (t .ready .inside k h .row) y (t .ready .inside k h .within) in
+          | yes y ↦ absurd (let u = starts-up nb bs (t .ready .rows .rows) (suc row) (t .ready .inside k h .row) y (t .ready .inside k h .within) in
               let v = t .ready .rows .rows (suc row) (omega (arith, t .ready .inside k h .within)) .after in
               omega (arith, u, v, ends, t .ready .inside k h .from))
           | no y ↦ (let z : t .ready .inside k h .row ≡ row = omega (arith, ahead) in rw z at (t .ready .inside k h .from))

@@ -2,7 +2,7 @@
 ghost use mathlib.Core.Path.{_≡_};
 ghost use mathlib.Core.List.{map};
 ghost use Prim.Native.Nat.{_+_, _*_, _≤_};
-ghost use lib.ListN.{length};
+ghost use lib.ListN.{length, getD};
 ghost use Rattle.rules.specs.Tokens.{upper};
 ghost use Rattle.rules.specs.Buffers.{six, short, least, lentWords, nameRow, labRow};
 ghost use Rattle.base_text.specs.Names.{ordered};
@@ -102,6 +102,18 @@ pub fn label_name<'a>(labels: &[u32], names: &'a [u8], k: usize) -> &'a [u8]
         return &names[start..];
     }
     &names[start..start + size]
+}
+
+// The same of a row that is there and whose name stands within the name bytes.
+pub fn name_of<'a>(labels: &[u32], names: &'a [u8], k: usize) -> &'a [u8]
+    requires { ⌜ k * 4 + 4 ≤ length (now labels) ⌝ }
+    requires { ⌜ getD (now labels) (k * 4 + 2) 0 + getD (now labels) (k * 4 + 3) 0 ≤ length (now names) ⌝ }
+    ensures { λ r. ⌜ now r ≡ nameRow (now (labels .entry)) (now (names .entry)) k ⌝ }
+{
+    let i = k * LABEL_CELLS;
+    let start = wide(labels[i + NAME_START]);
+    let end = start + wide(labels[i + NAME_LENGTH]);
+    &names[start..end]
 }
 
 // What label row k says.

@@ -1,16 +1,16 @@
 -- The four checks together. Assumes nothing.
-use mathlib.Core.Path.{_≡_, refl, sym, _∙_, ap}
+use mathlib.Core.Path.{_≡_, refl}
 use mathlib.Core.Bool.{Bool, true, false}
 use mathlib.Core.List.{List}
 use Prim.Native.Nat.{ℕ}
-use native.Mathlib.Omega.{arith}
 use Rattle.rules.specs.Base.{Outcome, ok, refuse, nowhere}
 use Rattle.rules.specs.Objects.{Counts}
 use Rattle.rules.specs.Buffers.{Buffers, short, BlocksOk, WordsOk, LabelsOk, RelocsOk, Valid}
+use Rattle.rules.proofs.Bools.{never}
 use Rattle.object.specs.Decides.{Decides, decides-no}
 use Rattle.rules.specs.Calls.{OfObject, too-short, bad-object, on-object}
 use Rattle.object_check_relocations.specs.Ground.{Ground}
-use Rattle.object_check.specs.Checked.{outcome, numberOf}
+use Rattle.object_check.specs.Checked.{outcome, outcome-one}
 use Rattle.object_check.specs.declared.Checked.{Checked}
 use Rattle.object_check.specs.declared.Checked.the-variants.{Object, ShortBuffer, BadObject}
 
@@ -55,15 +55,15 @@ module _ {c : Counts} {b : Buffers} (r : Checked) (l : OfObject c b (ok tt) (out
   checked-valid q = go l
     where
       go : OfObject c b (ok tt) (outcome r) → Valid c b
-      go (too-short p e) = absurd (let z = ap numberOf (sym (ap outcome q) ∙ e) in omega arith)
-      go (bad-object p n e) = absurd (let z = ap numberOf (sym (ap outcome q) ∙ e) in omega arith)
+      go (too-short p e) = never (cc (outcome-one r ShortBuffer e))
+      go (bad-object p n e) = never (cc (outcome-one r BadObject e))
       go (on-object p v e) = v
 
   pub checked-long : r ≡ Object → short b ≡ false
   checked-long q = go l
     where
       go : OfObject c b (ok tt) (outcome r) → short b ≡ false
-      go (too-short p e) = absurd (let z = ap numberOf (sym (ap outcome q) ∙ e) in omega arith)
+      go (too-short p e) = never (cc (outcome-one r ShortBuffer e))
       go (bad-object p n e) = p
       go (on-object p v e) = p
 
@@ -72,14 +72,14 @@ module _ {c : Counts} {b : Buffers} (r : Checked) (l : OfObject c b (ok tt) (out
     where
       go : OfObject c b (ok tt) (outcome r) → short b ≡ true
       go (too-short p e) = p
-      go (bad-object p n e) = absurd (let z = ap numberOf (sym (ap outcome q) ∙ e) in omega arith)
-      go (on-object p v e) = absurd (let z = ap numberOf (sym (ap outcome q) ∙ e) in omega arith)
+      go (bad-object p n e) = never (cc (outcome-one r BadObject e))
+      go (on-object p v e) = never (cc (outcome-one r Object e))
 
   pub checked-wide : r ≡ BadObject → short b ≡ false
   checked-wide q = go l
     where
       go : OfObject c b (ok tt) (outcome r) → short b ≡ false
-      go (too-short p e) = absurd (let z = ap numberOf (sym (ap outcome q) ∙ e) in omega arith)
+      go (too-short p e) = never (cc (outcome-one r ShortBuffer e))
       go (bad-object p n e) = p
       go (on-object p v e) = p
 
@@ -87,9 +87,9 @@ module _ {c : Counts} {b : Buffers} (r : Checked) (l : OfObject c b (ok tt) (out
   checked-bad q = go l
     where
       go : OfObject c b (ok tt) (outcome r) → Valid c b → ⊥
-      go (too-short p e) = absurd (let z = ap numberOf (sym (ap outcome q) ∙ e) in omega arith)
+      go (too-short p e) = never (cc (outcome-one r ShortBuffer e))
       go (bad-object p n e) = n
-      go (on-object p v e) = absurd (let z = ap numberOf (sym (ap outcome q) ∙ e) in omega arith)
+      go (on-object p v e) = never (cc (outcome-one r Object e))
 
   -- a call that goes on with the object, and one that hands on the refusal
   pub goes-on : {A : Type 0} {rule x : Outcome A} → r ≡ Object → x ≡ rule → OfObject c b rule x
@@ -100,13 +100,13 @@ module _ {c : Counts} {b : Buffers} (r : Checked) (l : OfObject c b (ok tt) (out
     where
       go : OfObject c b (ok tt) (outcome r) → OfObject c b rule x
       go (too-short p e) = too-short p d
-      go (bad-object p n e) = absurd (let z = ap numberOf (sym (ap outcome q) ∙ e) in omega arith)
-      go (on-object p v e) = absurd (let z = ap numberOf (sym (ap outcome q) ∙ e) in omega arith)
+      go (bad-object p n e) = never (cc (outcome-one r BadObject e))
+      go (on-object p v e) = never (cc (outcome-one r Object e))
 
   pub refuses-bad : {A : Type 0} {rule x : Outcome A} → r ≡ BadObject → x ≡ refuse 43 nowhere → OfObject c b rule x
   refuses-bad {A} {rule} {x} q d = go l
     where
       go : OfObject c b (ok tt) (outcome r) → OfObject c b rule x
-      go (too-short p e) = absurd (let z = ap numberOf (sym (ap outcome q) ∙ e) in omega arith)
+      go (too-short p e) = never (cc (outcome-one r ShortBuffer e))
       go (bad-object p n e) = bad-object p n d
-      go (on-object p v e) = absurd (let z = ap numberOf (sym (ap outcome q) ∙ e) in omega arith)
+      go (on-object p v e) = never (cc (outcome-one r Object e))

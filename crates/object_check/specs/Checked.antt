@@ -6,6 +6,7 @@ use Rattle.rules.specs.Base.{Outcome, ok, refused, refuse, nowhere}
 use Rattle.rules.specs.Objects.{Counts}
 use Rattle.rules.specs.Buffers.{Buffers}
 use Rattle.rules.specs.Calls.{OfObject}
+use Rattle.rules.proofs.Bools.{never}
 use Rattle.rules.proofs.Calls.{answered-once}
 use Rattle.object_check.specs.declared.Checked.{Checked}
 use Rattle.object_check.specs.declared.Checked.the-variants.{Object, ShortBuffer, BadObject}
@@ -16,20 +17,20 @@ outcome ShortBuffer = refuse 42 nowhere
 outcome BadObject = refuse 43 nowhere
 
 -- the number of an outcome, 0 where it is accepted
-abbrev pub numberOf : Outcome (Unit {0}) → ℕ
+abbrev numberOf : Outcome (Unit {0}) → ℕ
 numberOf (ok a) = 0
 numberOf (refused r) = r .number
 
 -- different answers are different outcomes
-outcome-one : (r s : Checked) → outcome r ≡ outcome s → r ≡ s
+pub outcome-one : (r s : Checked) → outcome r ≡ outcome s → r ≡ s
 outcome-one Object Object e = refl
-outcome-one Object ShortBuffer e = absurd (let z = ap numberOf e in omega arith)
-outcome-one Object BadObject e = absurd (let z = ap numberOf e in omega arith)
-outcome-one ShortBuffer Object e = absurd (let z = ap numberOf e in omega arith)
+outcome-one Object ShortBuffer e = never cc
+outcome-one Object BadObject e = never cc
+outcome-one ShortBuffer Object e = never cc
 outcome-one ShortBuffer ShortBuffer e = refl
-outcome-one ShortBuffer BadObject e = absurd (let z = ap numberOf e in omega arith)
-outcome-one BadObject Object e = absurd (let z = ap numberOf e in omega arith)
-outcome-one BadObject ShortBuffer e = absurd (let z = ap numberOf e in omega arith)
+outcome-one ShortBuffer BadObject e = absurd (omega (arith, ap numberOf e))
+outcome-one BadObject Object e = never cc
+outcome-one BadObject ShortBuffer e = absurd (omega (arith, ap numberOf e))
 outcome-one BadObject BadObject e = refl
 
 -- two answers of `check_object` that its contract allows are equal

@@ -14,6 +14,7 @@ use Rattle.rules.specs.Objects.{word}
 use Rattle.rules.specs.Buffers.{headRow, sumOf, cellOf, cellRow, BlocksOk, WordsOk, ZeroAt}
 use Rattle.rules.proofs.Bools.{never}
 use Rattle.object.specs.Decides.{Decides, decides-yes, decides-no}
+use Rattle.object.proofs.Blocks.{starts-up}
 use Rattle.object_check_blocks.specs.Places.{Inside, Placed, ZeroCell}
 use Rattle.object_check_blocks.specs.declared.Place.{Place}
 use Rattle.object_check_blocks.specs.declared.Place.the-variants.{At, Nowhere}
@@ -28,15 +29,6 @@ pub record Seeking (n : ℕ) (bs : List ℕ) (x k sum : ℕ) : Type 0 where
 
 pub seeking-none : {n x : ℕ} {bs : List ℕ} → Seeking n bs x 0 0
 seeking-none = record { within = omega arith; count = refl; small = omega arith; past = λ j h. absurd (not-suc-le-zero h) }
-
--- starts rise
-starts-up : (n w : ℕ) (bs : List ℕ) → BlocksOk n w bs → (j i : ℕ) → j ≤ i → i < n → headRow bs j .0 ≤ headRow bs i .0
-starts-up n w bs v j zero h l = let e : j ≡ 0 = omega arith in rw e (omega arith)
-starts-up n w bs v j (suc i) h l = go (decLt j (suc i)) (λ p. starts-up n w bs v j i p (omega arith))
-  where
-    go : Dec (j < suc i) → (j ≤ i → headRow bs j .0 ≤ headRow bs i .0) → headRow bs j .0 ≤ headRow bs (suc i) .0
-    go (yes p) ih = let q = ih (omega arith) in omega (arith, v .rows (suc i) l .after)
-    go (no p) ih = let e : j ≡ suc i = omega arith in rw e (omega arith)
 
 -- words before a row are within all words
 sum-up : (n : ℕ) (h : ℕ → ℕ × ℕ) (k : ℕ) → k < n → sumOf h k + h k .1 ≤ sumOf h n
@@ -76,7 +68,7 @@ module _ {n w k x sum s l : ℕ} {bs : List ℕ} (v : BlocksOk n w bs) (t : Seek
       go : (j : ℕ) → j < n → Inside (headRow bs) x j → ⊥
       go j m i = elim (decLt j k) [
         | yes b ↦ (let z = t .past j b in omega (arith, i .1))
-        | no b ↦ (let z = starts-up n w bs v k j (omega arith) m in omega (arith, i .0))
+        | no b ↦ (let z = starts-up n bs (v .rows) k j (omega arith) m in omega (arith, i .0))
       ]
 
 pub seeking-end : {n w k x sum : ℕ} {bs : List ℕ} → Seeking n bs x k sum → n ≤ k → Placed n w bs x Nowhere

@@ -18,6 +18,7 @@ use Rattle.object_names.specs.Plain.{CapitalFront}
 use Rattle.base_text.specs.declared.Order.{Order}
 use Rattle.base_text.specs.declared.Order.the-variants.{Less, Same, Greater}
 use Rattle.object.specs.Decides.{Decides, decides-yes, decides-no}
+use Rattle.object.proofs.Parts.{name-whole}
 use Rattle.object.proofs.Order.{is-less, is-same, is-greater}
 use Rattle.object_check_labels.specs.Follows.{Flagged, RowsTo, Follows}
 
@@ -40,10 +41,6 @@ module _ {a f : ℕ} where
 
 -- A ROW
 
--- the name, as a part of the name bytes
-pub row-named : (ls ns : List ℕ) (k : ℕ) {s l : ℕ} → s ≡ getD ls (k * 4 + 2) 0 → l ≡ getD ls (k * 4 + 3) 0 → take (s + l - s) (drop s ns) ≡ nameRow ls ns k
-row-named ls ns k {s} {l} p q = let e : s + l - s ≡ l = omega arith in rw (e, p, q) refl
-
 module _ {ls ns : List ℕ} {k : ℕ} where
   pub row-flag : {r : Bool} → Decides (Flagged (getD ls (k * 4) 0) (getD ls (k * 4 + 1) 0)) r → r ≡ false → Decides (LabelRow ls ns k) false
   row-flag d e = decides-no (λ v. d .no e (record { address = v .address; flag = v .flag; outside = v .outside }))
@@ -54,7 +51,7 @@ module _ {ls ns : List ℕ} {k : ℕ} where
   pub row-name : {r t : Bool} {s l : ℕ} → Decides (Flagged (getD ls (k * 4) 0) (getD ls (k * 4 + 1) 0)) r → r ≡ true
       → s ≡ getD ls (k * 4 + 2) 0 → l ≡ getD ls (k * 4 + 3) 0 → s + l ≤ length ns → t ≡ goodName (take (s + l - s) (drop s ns)) → Decides (LabelRow ls ns k) t
   row-name d e p q b t =
-      let n = row-named ls ns k p q in
+      let n = name-whole k _ _ ls ns p q in
       record {
         yes = λ x. (let g = d .yes e in record {
           address = g .address;
@@ -71,6 +68,11 @@ module _ {ls ns : List ℕ} {k : ℕ} where
   row-front f d e p q h t = row-name d e p q (omega (arith, f .within)) t
 
 -- THE ROW BEFORE
+
+-- the name of a row that keeps the rules stands within the names
+pub row-place : {ls ns : List ℕ} {k : ℕ} (j : ℕ) → RowsTo ls ns k → j < k → getD ls (j * 4 + 2) 0 + getD ls (j * 4 + 3) 0 ≤ length ns
+row-place j t h = t .rows j h .place
+
 pub follows-none : {ls ns : List ℕ} {k : ℕ} → k ≡ 0 → Decides (Follows ls ns k) true
 follows-none e = decides-yes (record { up = λ j q. absurd (omega arith) })
 

@@ -3,7 +3,7 @@ ghost use mathlib.Core.Path.{_≡_};
 ghost use Prim.Native.Nat.{_+_, _*_, _≤_, _<_};
 ghost use lib.ListN.{length};
 ghost use Rattle.rules.specs.Tables.{Before};
-ghost use Rattle.rules.specs.Buffers.{nameRow, LabelRow, LabelsOk};
+ghost use Rattle.rules.specs.Buffers.{LabelRow, LabelsOk};
 ghost use Rattle.object.specs.Decides.{Decides};
 ghost use Rattle.object_check_labels.specs.Follows.{Flagged, RowsTo, Follows};
 ghost use Rattle.object_names.specs.Plain.{CapitalFront};
@@ -63,17 +63,6 @@ fn check_label(labels: &[u32], names: &[u8], k: usize, front: usize) -> bool
     false
 }
 
-// The name of row k, which keeps the rules.
-fn name_of<'a>(labels: &[u32], names: &'a [u8], k: usize) -> &'a [u8]
-    requires { ⌜ (k * 4 + 4 ≤ length (now labels)) × LabelRow (now labels) (now names) k ⌝ }
-    ensures { λ r. ⌜ now r ≡ nameRow (now (labels .entry)) (now (names .entry)) k ⌝ }
-{
-    let i = k * LABEL_CELLS;
-    let start = wide(labels[i + NAME_START]);
-    let end = start + wide(labels[i + NAME_LENGTH]);
-    &names[start..end]
-}
-
 // A name goes before another.
 fn is_before(a: &[u8], b: &[u8]) -> bool
     ensures { λ r. ⌜ Decides (Before (now (a .entry)) (now (b .entry))) r ⌝ }
@@ -112,8 +101,8 @@ fn follows(labels: &[u32], names: &[u8], k: usize) -> bool
         return true;
     }
     let j = k - 1;
-    let before = name_of(labels, names, j);
-    let name = name_of(labels, names, k);
+    let before = object::name_of(labels, names, j);
+    let name = object::name_of(labels, names, k);
     goes_before(before, name)
 }
 

@@ -10,6 +10,7 @@ use Rattle.rules.specs.Base.{if_then_else_, Outcome, ok, refused}
 use Rattle.rules.specs.Tables.{nameOrder}
 use Rattle.rules.specs.Objects.{Lab, outer, defined, Name, Counts, lookupLabel}
 use Rattle.rules.specs.Buffers.{Buffers, nameRow, labelRow, view, LabelsOk, Valid}
+use Rattle.rules.proofs.Bools.{never}
 use Rattle.rules.proofs.Tables.{lt-ne}
 use Rattle.rules.proofs.Rows.{up-lt}
 use Rattle.rules.specs.Calls.{OfObject, too-short, bad-object, on-object}
@@ -50,15 +51,15 @@ rows-one {n} {ls} {ns} v k j p q e = elim (decLt k j) [
   ]
 ]
 
-abbrev tag : Outcome (Option Name) → ℕ
-tag (ok (some n)) = 0
-tag (ok none) = 1
-tag (refused r) = r .number
+-- the number of an outcome, 0 where it is accepted
+abbrev numberOf : Outcome (Option Name) → ℕ
+numberOf (ok a) = 0
+numberOf (refused r) = r .number
 
 -- where a row answers, the object is valid
-row-valid : {c : Counts} {b : Buffers} {rule : Outcome (Option Name)} (k : ℕ) → OfObject c b rule (found (b .labels) (b .names) (find.Row k)) → Valid c b
-row-valid k (too-short p e) = absurd (let z = ap tag e in omega arith)
-row-valid k (bad-object p n e) = absurd (let z = ap tag e in omega arith)
+pub row-valid : {c : Counts} {b : Buffers} {rule : Outcome (Option Name)} (k : ℕ) → OfObject c b rule (found (b .labels) (b .names) (find.Row k)) → Valid c b
+row-valid k (too-short p e) = never cc
+row-valid k (bad-object p n e) = never cc
 row-valid k (on-object p v e) = v
 
 -- of `rev_lookup_label`
@@ -69,18 +70,18 @@ found-once c b a r s x y = go r s x y (answered-once (x .name) (y .name))
     go (find.Row k) (find.Row j) x y e =
         let q : nameRow (b .labels) (b .names) k ≡ nameRow (b .labels) (b .names) j = cc in
         ap find.Row (rows-one (row-valid k (x .name) .labels) k j (x .row k refl) (y .row j refl) q)
-    go (find.Row k) find.Nothing x y e = absurd (let z = ap tag e in omega arith)
-    go (find.Row k) find.ShortBuffer x y e = absurd (let z = ap tag e in omega arith)
-    go (find.Row k) find.BadObject x y e = absurd (let z = ap tag e in omega arith)
-    go find.Nothing (find.Row j) x y e = absurd (let z = ap tag e in omega arith)
+    go (find.Row k) find.Nothing x y e = never cc
+    go (find.Row k) find.ShortBuffer x y e = never cc
+    go (find.Row k) find.BadObject x y e = never cc
+    go find.Nothing (find.Row j) x y e = never cc
     go find.Nothing find.Nothing x y e = refl
-    go find.Nothing find.ShortBuffer x y e = absurd (let z = ap tag e in omega arith)
-    go find.Nothing find.BadObject x y e = absurd (let z = ap tag e in omega arith)
-    go find.ShortBuffer (find.Row j) x y e = absurd (let z = ap tag e in omega arith)
-    go find.ShortBuffer find.Nothing x y e = absurd (let z = ap tag e in omega arith)
+    go find.Nothing find.ShortBuffer x y e = never cc
+    go find.Nothing find.BadObject x y e = never cc
+    go find.ShortBuffer (find.Row j) x y e = never cc
+    go find.ShortBuffer find.Nothing x y e = never cc
     go find.ShortBuffer find.ShortBuffer x y e = refl
-    go find.ShortBuffer find.BadObject x y e = absurd (let z = ap tag e in omega arith)
-    go find.BadObject (find.Row j) x y e = absurd (let z = ap tag e in omega arith)
-    go find.BadObject find.Nothing x y e = absurd (let z = ap tag e in omega arith)
-    go find.BadObject find.ShortBuffer x y e = absurd (let z = ap tag e in omega arith)
+    go find.ShortBuffer find.BadObject x y e = absurd (omega (arith, ap numberOf e))
+    go find.BadObject (find.Row j) x y e = never cc
+    go find.BadObject find.Nothing x y e = never cc
+    go find.BadObject find.ShortBuffer x y e = absurd (omega (arith, ap numberOf e))
     go find.BadObject find.BadObject x y e = refl

@@ -103,8 +103,7 @@ module _ (rs₀ qs₀ rs qs src : List ℕ) (at : ℕ) (o : code.Pass1State) (g 
         let w = was-refused (nextStatement src at) n a e (sym h ∙ q) in
         let l = g .left ss y in
         let m : ok (l .rest) ≡ refused (w .refusal) = sym (l .is) ∙ statements-refused src at (w .refusal) (w .is) in
-        let u : _≡_ {A = ℕ} 0 1 = cc in
-        absurd (omega arith));
+        never cc);
     kept = λ o′ y. (never cc);
     read = λ o′ y. (never cc);
   })

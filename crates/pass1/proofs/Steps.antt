@@ -10,7 +10,7 @@ use lib.Dec.{ltb}
 use Rattle.rules.specs.Base.{Outcome, ok, refuse2, _>>=_, span}
 use Rattle.rules.specs.Words as words
 use Rattle.rules.specs.Statements.{Name, Stmt, labelsAt}
-use Rattle.rules.proofs.Bools.{never}
+use Rattle.rules.proofs.Bools.{never, and-left, and-right}
 use Rattle.rules.specs.Passes.{Pass1State, wordLen, labelled, directed, advanced, stepOne}
 use Rattle.pass1_symbols.specs.Symbols.{symbols}
 use Rattle.pass1_relocations.specs.Pending.{notes}
@@ -109,14 +109,6 @@ module _ (rs qs src : List ℕ) (o : code.Pass1State) (h : Held rs qs src o) (st
 
 -- A STATEMENT THAT ONLY COUNTS
 
-and-first : (a b : Bool) → (a && b) ≡ true → a ≡ true
-and-first true b e = refl
-and-first false b e = never cc
-
-and-second : (a b : Bool) → (a && b) ≡ true → b ≡ true
-and-second true b e = e
-and-second false b e = never cc
-
 is-not : (b : Bool) → not b ≡ true → b ≡ false
 is-not true e = never cc
 is-not false e = refl
@@ -132,13 +124,13 @@ pub counts : (st : Statement) (o : code.Pass1State) {t : Bool} → t ≡ onlyCou
 unfolding onlyCounts
 counts st o q y =
     let e = sym q ∙ y in
-    let a = and-first (oneWord (st .op) (st .reach) && not (st .labelled) && o .inside) (ltb (o .counter) 65024) e in
-    let b = and-first (oneWord (st .op) (st .reach) && not (st .labelled)) (o .inside) a in
+    let a = and-left (oneWord (st .op) (st .reach) && not (st .labelled) && o .inside) (ltb (o .counter) 65024) e in
+    let b = and-left (oneWord (st .op) (st .reach) && not (st .labelled)) (o .inside) a in
     record {
-      one = and-first (oneWord (st .op) (st .reach)) (not (st .labelled)) b;
-      bare = is-not (st .labelled) (and-second (oneWord (st .op) (st .reach)) (not (st .labelled)) b);
-      inside = and-second (oneWord (st .op) (st .reach) && not (st .labelled)) (o .inside) a;
-      room = ltb-true _ _ (and-second (oneWord (st .op) (st .reach) && not (st .labelled) && o .inside) (ltb (o .counter) 65024) e);
+      one = and-left (oneWord (st .op) (st .reach)) (not (st .labelled)) b;
+      bare = is-not (st .labelled) (and-right (oneWord (st .op) (st .reach)) (not (st .labelled)) b);
+      inside = and-right (oneWord (st .op) (st .reach) && not (st .labelled)) (o .inside) a;
+      room = ltb-true _ _ (and-right (oneWord (st .op) (st .reach) && not (st .labelled) && o .inside) (ltb (o .counter) 65024) e);
     }
 
 -- it directs nothing and takes a word

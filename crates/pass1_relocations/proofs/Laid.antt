@@ -86,6 +86,3 @@ writing-all {rs} {src} {ss} {n} {m} {out₀} {out} {k} w l =
 -- AFTER THE CLEARING
 pub room-after : (n : ℕ) (out z : List ℕ) → n * 2 ≤ length out → z ≡ zeros (length out) → n * 2 ≤ length z
 room-after n out z h e = omega (arith, h, ap length e, length-replicate {A = ℕ} (length out) 0)
-
-pub laid-after : (l out z r : List ℕ) → r ≡ lay l (length z) → z ≡ zeros (length out) → r ≡ lay l (length out)
-laid-after l out z r q e = q ∙ ap (lay l) (ap length e ∙ length-replicate (length out) 0)

@@ -117,8 +117,7 @@ module _ (rs src : List ℕ) (n : ℕ) (bs₀ os₀ ws₀ ms₀ bs os ws ms : Li
   going-stop m a e q r =
       let w = was-refused (nextStatement src at) m a e (sym h ∙ q) in
       let z : ok (g .rest) ≡ refused (w .refusal) = sym (g .left) ∙ statements-refused src at (w .refusal) (w .is) in
-      let u : _≡_ {A = ℕ} 0 1 = cc in
-      absurd (omega arith)
+      never cc
 
   -- the end: pass one has no open block there
   module _ (q : x ≡ next.End) where

@@ -1,6 +1,6 @@
 -- A statement whose word is known: written behind those of the open block, it is what the rules write. Assumes nothing.
 use mathlib.Core.Path.{_≡_, refl, sym, _∙_, ap}
-use mathlib.Core.Bool.{Bool, true, false, _&&_}
+use mathlib.Core.Bool.{Bool, true, _&&_}
 use mathlib.Core.List.{List, [], _∷_}
 use Prim.Native.Nat.{ℕ, _+_, _-_, _<_}
 use native.Mathlib.Omega.{arith}
@@ -12,7 +12,7 @@ use Rattle.rules.specs.Words as words
 use Rattle.rules.specs.Objects.{word}
 use Rattle.rules.specs.Statements.{Stmt}
 use Rattle.rules.specs.Passes.{wordsOf, emit, written}
-use Rattle.rules.proofs.Bools.{never}
+use Rattle.rules.proofs.Bools.{never, and-left, and-right}
 use Rattle.parse.specs.declared.Statement.{Statement}
 use Rattle.parse_rows.specs.declared.Op.{Op}
 use Rattle.parse_rows.specs.declared.Op.the-variants.{Instr, Orig, Fill, Blkw, Stringz, External}
@@ -34,14 +34,6 @@ use Rattle.pass2_statement.proofs.ByKind.{writes-emits, instr-written, 
 pub known-wrote : (ws ms ws′ ms′ : List ℕ) (used b : ℕ) {w : ℕ} → w ≡ b → Wrote ws ms ws′ ms′ used (word w ∷ []) → Wrote ws ms ws′ ms′ used (word b ∷ [])
 known-wrote ws ms ws′ ms′ used b e h = rw (← e) h
 
-and-first : (a b : Bool) → (a && b) ≡ true → a ≡ true
-and-first true b e = refl
-and-first false b e = never cc
-
-and-second : (a b : Bool) → (a && b) ≡ true → b ≡ true
-and-second true b e = e
-and-second false b e = never cc
-
 -- what the test says
 pub record Known (st : Statement) (t : Pass2State) : Type 0 where
   pub one : oneWord (st .op) ≡ true
@@ -52,11 +44,11 @@ pub is-known : (st : Statement) (t : Pass2State) {b : Bool} → b ≡ known st t
 unfolding known
 is-known st t q y =
     let e = sym q ∙ y in
-    let a = and-first (oneWord (st .op) && eqb (st .reach) 0) (t .inside) e in
+    let a = and-left (oneWord (st .op) && eqb (st .reach) 0) (t .inside) e in
     record {
-      one = and-first (oneWord (st .op)) (eqb (st .reach) 0) a;
-      bare = eqb-true _ _ (and-second (oneWord (st .op)) (eqb (st .reach) 0) a);
-      inside = and-second (oneWord (st .op) && eqb (st .reach) 0) (t .inside) e;
+      one = and-left (oneWord (st .op)) (eqb (st .reach) 0) a;
+      bare = eqb-true _ _ (and-right (oneWord (st .op)) (eqb (st .reach) 0) a);
+      inside = and-right (oneWord (st .op) && eqb (st .reach) 0) (t .inside) e;
     }
 
 module _ (rs src : List ℕ) (n : ℕ) (bs os ws ms : List ℕ) (st : Statement) (t : Pass2State) (v : Writes rs src n bs os ws ms st t) (k : Known st t) where

@@ -52,8 +52,7 @@ module _ (w : ℕ) (fs : List Field) (os : List Operand) (v : ℕ) where
   peel f o true n b e = record { holds = refl; rest = subst (λ (x : Option ℕ). joined (some w ⊕ x) fs os ≡ some v) b e }
   peel f o false n b e =
       let h : joined none fs os ≡ some v = subst (λ (x : Option ℕ). joined (some w ⊕ x) fs os ≡ some v) b e in
-      let z : _≡_ {A = ℕ} 0 1 = cc (joined-none fs os) in
-      absurd (omega arith)
+      never (cc (joined-none fs os))
 
   of-reg : (m r : ℕ) → joined (some w) (reg m ∷ fs) (register r ∷ os) ≡ some v → Peeled (leb r 7) (w + r * m) fs os v
   unfolding bits

@@ -22,13 +22,13 @@ use Rattle.rules.proofs.Starts.{rowsAt, hexDigit, hex-value, hex-wordy}
 use Rattle.rules.proofs.Heads.{drop-taken, begins-apart, begins-within, begins-same, while-same, while-longer, while-none, while-one, begins-count}
 use Rattle.rules.proofs.Sizes.{digit-wordy, letter-wordy}
 use Rattle.rules.proofs.While.{yes-cons}
-use Rattle.rules.proofs.Bools.{and-left, and-right}
+use Rattle.rules.proofs.Bools.{never, and-left, and-right}
 
 longest-fits : (r : Regex) (s : List ℕ) (k : ℕ) → longest r s ≡ some k → k ≤ length s
 longest-fits r s k e =
     ⊎-elim
     (λ a. let q : a .0 ≡ k = cc (a .2) in omega (arith, a .1 .fits))
-    (λ a. let z : _≡_ {A = ℕ} 0 1 = cc (a .1) in absurd (omega arith))
+    (λ a. never (cc (a .1)))
     (longest-right r s)
 
 -- a row's match is as long as it was found to be

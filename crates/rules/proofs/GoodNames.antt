@@ -50,11 +50,8 @@ value-upper : (c : ℕ) → value (upper c) ≡ value c
 unfolding value digit upper if_then_else_
 value-upper c = small c (λ x. value x ≡ value c) (λ l h. sameRun (λ x. value (x - 32)) value 97 26 tt c l h) (λ e. refl)
 
-yes-no : true ≡ false → ⊥
-yes-no e = never cc
-
 or-no : (a b : Bool) → (a || b) ≡ false → a ≡ false
-or-no true b e = absurd (yes-no e)
+or-no true b e = never cc
 or-no false b e = refl
 
 digit-wordy : (c : ℕ) → wordy c ≡ false → digit c ≡ false
@@ -71,8 +68,8 @@ unfolding value if_then_else_
 plain-value c e = go (digit c) (leb 65 (upper c)) (leb (upper c) 70) (digit-wordy c e) refl refl
   where
     go : (d a b : Bool) → d ≡ false → leb 65 (upper c) ≡ a → leb (upper c) 70 ≡ b → ltb (if d then c - 48 else (if a && b then upper c - 55 else 99)) 16 ≡ false
-    go true a b q x y = absurd (yes-no q)
-    go false true true q x y = absurd (yes-no (hex-wordy (upper c) (leb-true 65 (upper c) x) (leb-true (upper c) 70 y) ∙ (wordy-upper c ∙ e)))
+    go true a b q x y = never cc
+    go false true true q x y = never (cc (hex-wordy (upper c) (leb-true 65 (upper c) x) (leb-true (upper c) 70 y), wordy-upper c))
     go false true false q x y = refl
     go false false b q x y = refl
 
@@ -86,7 +83,7 @@ run-upper (c ∷ s) = go (wordy c) refl (run-upper s)
   where
     again : (b : Bool) → wordy (upper c) ≡ b → b ≡ true → while wordy (map upper (while wordy s)) ≡ map upper (while wordy s) → (elim b as (λ x. List ℕ) [ true ↦ upper c ∷ while wordy (map upper (while wordy s)) | false ↦ [] ]) ≡ upper c ∷ map upper (while wordy s)
     again true q r ih = ap (λ (x : List ℕ). upper c ∷ x) ih
-    again false q r ih = absurd (yes-no (sym r))
+    again false q r ih = never cc
 
     go : (b : Bool) → wordy c ≡ b → while wordy (map upper (while wordy s)) ≡ map upper (while wordy s) → while wordy (map upper (elim b as (λ x. List ℕ) [ true ↦ c ∷ while wordy s | false ↦ [] ])) ≡ map upper (elim b as (λ x. List ℕ) [ true ↦ c ∷ while wordy s | false ↦ [] ])
     go true q ih = again (wordy (upper c)) refl (wordy-upper c ∙ q) ih
@@ -111,14 +108,14 @@ after-digits (c ∷ s) = by-word (wordy c) (digit c) refl refl (after-digits s)
     inner : (e d : Bool) → digit (upper c) ≡ e → e ≡ d → begins wordy (drop (length (while digit (map upper (while wordy s)))) (map upper (while wordy s))) ≡ begins wordy (drop (length (while digit s)) s)
         → begins wordy (drop (length {A = ℕ} (elim e as (λ x. List ℕ) [ true ↦ upper c ∷ while digit (map upper (while wordy s)) | false ↦ [] ])) (upper c ∷ map upper (while wordy s))) ≡ begins wordy (drop (length {A = ℕ} (elim d as (λ x. List ℕ) [ true ↦ c ∷ while digit s | false ↦ [] ])) (c ∷ s))
     inner true true x q ih = ih
-    inner true false x q ih = absurd (yes-no q)
-    inner false true x q ih = absurd (yes-no (sym q))
+    inner true false x q ih = never cc
+    inner false true x q ih = never cc
     inner false false x q ih = wordy-upper c
 
     by-word : (b d : Bool) → wordy c ≡ b → digit c ≡ d → begins wordy (drop (length (while digit (map upper (while wordy s)))) (map upper (while wordy s))) ≡ begins wordy (drop (length (while digit s)) s)
         → begins wordy (drop (length (while digit (map upper (elim b as (λ x. List ℕ) [ true ↦ c ∷ while wordy s | false ↦ [] ])))) (map upper (elim b as (λ x. List ℕ) [ true ↦ c ∷ while wordy s | false ↦ [] ]))) ≡ begins wordy (drop (length {A = ℕ} (elim d as (λ x. List ℕ) [ true ↦ c ∷ while digit s | false ↦ [] ])) (c ∷ s))
     by-word true d q r ih = inner (digit (upper c)) d refl (digit-upper c ∙ r) ih
-    by-word false true q r ih = absurd (yes-no (sym r ∙ digit-wordy c q))
+    by-word false true q r ih = never (cc (digit-wordy c q))
     by-word false false q r ih = sym q
 
 not-minus : (c : ℕ) → wordy c ≡ true → eqb c 45 ≡ false
@@ -126,7 +123,7 @@ unfolding wordy digit letter
 not-minus c w = go (eqb c 45) refl
   where
     go : (b : Bool) → eqb c 45 ≡ b → b ≡ false
-    go true q = absurd (yes-no (sym w ∙ ap wordy (eqb-true c 45 q)))
+    go true q = never (cc (sym w ∙ ap wordy (eqb-true c 45 q)))
     go false q = refl
 
 not-hash : (c : ℕ) → letter c ≡ true → eqb c 35 ≡ false
@@ -134,7 +131,7 @@ unfolding letter
 not-hash c w = go (eqb c 35) refl
   where
     go : (b : Bool) → eqb c 35 ≡ b → b ≡ false
-    go true q = absurd (yes-no (sym w ∙ ap letter (eqb-true c 35 q)))
+    go true q = never (cc (sym w ∙ ap letter (eqb-true c 35 q)))
     go false q = refl
 
 begins-plain : (s : List ℕ) → begins (is "-") (map upper (while wordy s)) ≡ false
@@ -214,7 +211,7 @@ module _ (c : ℕ) (s : List ℕ) (y : wordy c ≡ true) (h : tokenAt (upper c) 
     where
       go : (b : Bool) → b ≡ true → (elim b as (λ x. List ℕ) [ true ↦ c ∷ while wordy s | false ↦ [] ]) ≡ c ∷ while wordy s
       go true q = refl
-      go false q = absurd (yes-no (sym q))
+      go false q = never cc
 
   text-again : wordAt (upper c ∷ map upper (while wordy s)) ≡ match (token (word (upper c ∷ map upper (while wordy s)))) (length (upper c ∷ map upper (while wordy s)))
   unfolding wordAt

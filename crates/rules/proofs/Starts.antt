@@ -223,4 +223,4 @@ hex-value c = ⊎-elim (λ l. go l (ltb (value c) 16) refl) (λ h. high-hex c h 
     go l false e = not-true (hexDigit c) (inside (λ x. not (ltb (value x) 16)) (λ x. not (hexDigit x)) low-hex c l (ap not e))
 
 pub hex-wordy : (c : ℕ) → hexDigit c ≡ true → wordy c ≡ true
-hex-wordy c e = ⊎-elim (λ l. inside hexDigit wordy hex-letters c l e) (λ h. let z : _≡_ {A = ℕ} 0 1 = cc (high-hex c h) in absurd (omega arith)) (low-or-high c)
+hex-wordy c e = ⊎-elim (λ l. inside hexDigit wordy hex-letters c l e) (λ h. never (cc (high-hex c h))) (low-or-high c)

@@ -35,10 +35,6 @@ reloc-rows n rs ls ns = relocs-flat (tab n (relocRow rs ls ns))
 
 -- A LABEL
 
--- its name, as a part of the names
-pub name-part : (ls ns : List ℕ) (k : ℕ) {s l : ℕ} → s ≡ getD ls (k * 4 + 2) 0 → l ≡ getD ls (k * 4 + 3) 0 → take (s + l - s) (drop s ns) ≡ nameRow ls ns k
-name-part ls ns k {s} {l} p q = let e : s + l - s ≡ l = omega arith in rw (e, p, q) refl
-
 module _ (ls ns : List ℕ) (k : ℕ) where
   pub field-defined : getD ls (k * 4 + 1) 0 ≡ 0 → labelField (labelRow ls ns k) ≡ fieldBytes 4 (pair (getD ls (k * 4) 0) ++ nameRow ls ns k)
   unfolding fieldBytes fieldOf

@@ -3,7 +3,6 @@ use base_capacities::DEFINED;
 use base_capacities::LABEL_CELLS;
 use base_capacities::LABEL_FLAG;
 use base_capacities::NAME_LENGTH;
-use base_capacities::NAME_START;
 use base_capacities::RELOCATION_CELLS;
 use base_capacities::RELOCATION_LABEL;
 use base_casts::wide;
@@ -21,18 +20,6 @@ ghost use Rattle.list_lines.specs.Appended.{Appended};
 ghost use Rattle.list_sections.specs.Low.{RelocsLow, RelocsNamed};
 ghost use Rattle.stored_write_labels.specs.Tables.{labelField, relocField, labelBytes, relocBytes, labelSize, FieldSized, FieldsSized};
 
-// The name of label row k, which stands within the names.
-fn name_of<'a>(labels: &[u32], names: &'a [u8], k: usize) -> &'a [u8]
-    requires { ⌜ k * 4 + 4 ≤ length (now labels) ⌝ }
-    requires { ⌜ getD (now labels) (k * 4 + 2) 0 + getD (now labels) (k * 4 + 3) 0 ≤ length (now names) ⌝ }
-    ensures { λ r. ⌜ now r ≡ nameRow (now (labels .entry)) (now (names .entry)) k ⌝ }
-{
-    let i = k * LABEL_CELLS;
-    let start = wide(labels[i + NAME_START]);
-    let end = start + wide(labels[i + NAME_LENGTH]);
-    &names[start..end]
-}
-
 // The field of label row k.
 fn put_label(out: &mut [u8], at: usize, labels: &[u32], names: &[u8], k: usize) -> usize
     requires { ⌜ k * 4 + 4 ≤ length (now labels) ⌝ }
@@ -43,7 +30,7 @@ fn put_label(out: &mut [u8], at: usize, labels: &[u32], names: &[u8], k: usize) 
     ensures { λ r. ⌜ Appended (now (out .entry)) (now (out .exit)) at r (labelField (labelRow (now (labels .entry)) (now (names .entry)) k)) ⌝ }
 {
     let i = k * LABEL_CELLS;
-    let name = name_of(labels, names, k);
+    let name = object::name_of(labels, names, k);
     if labels[i + LABEL_FLAG] == DEFINED {
         let address = word16(labels[i]);
         return stored_fields::put_addressed(out, at, DEFINED_LABEL, address, name);

@@ -12,6 +12,7 @@ use Rattle.rules.specs.Base.{if_then_else_, Span, span, nowhere}
 use Rattle.rules.specs.Tokens.{tokenIn, directive, nextToken, upper}
 use Rattle.rules.specs.Words.{Field, Row, find, instructions, directives}
 use Rattle.rules.specs.Statements.{Name, isMark, asWord, asDirective, pastLines, pastLabels, pastLabel, labelsAt, nameAt}
+use Rattle.rules.proofs.Bools.{never}
 use Rattle.rules.proofs.Ahead.{token-ends, names-on, names-done, label-in}
 use Rattle.lex_token.specs.Meant.{part, kindAt}
 use Rattle.lex_token.specs.declared.Lexeme.{Lexeme}
@@ -232,7 +233,7 @@ module _ (s : List ℕ) (place : ℕ) {first : ℕ} (w : Walk) (e : first ≡ li
 module _ (s : List ℕ) (i : ℕ) (r : NextLabel) (q : r ≡ labelFrom s i) where
   named : (o : Option Name) (j : ℕ) → r ≡ labelled o j → nameAt s (pastLines s i) ≡ o → (a e n : ℕ) → r ≡ label.Label a e n → (m : Name) × (nameAt s (pastLines s i) ≡ some m) × (span a e ≡ m .place) × (n ≡ j)
   unfolding labelled
-  named none j x y a e n z = absurd (let c : _≡_ {A = ℕ} 0 1 = cc in omega arith)
+  named none j x y a e n z = never cc
   named (some m) j x y a e n z =
       let u : a ≡ m .place .start = cc in
       let v : e ≡ m .place .stop = cc in
@@ -258,7 +259,7 @@ module _ (s : List ℕ) (i : ℕ) (r : NextLabel) (q : r ≡ labelFrom s i) wher
     where
       ended : (o : Option Name) → nameAt s (pastLines s i) ≡ o → r ≡ labelled o (pastLabel s i) → span a e ≡ v
       ended none y x = sym (ap (lastPlace (span a e)) (names-done s i y)) ∙ g
-      ended (some m) y x = absurd (let c : _≡_ {A = ℕ} 0 1 = cc in omega arith)
+      ended (some m) y x = never cc
 
 pub before-is : (s : List ℕ) (place : ℕ) {first : ℕ} {p : Span} → first ≡ lineStart s place → p ≡ lastPlace nowhere (labelsAt s first) → p ≡ labelBefore s place
 unfolding labelBefore

@@ -11,7 +11,9 @@ returns-2 : tie.Need-returns-2
 returns-2 c = search (needs, started-full)
 
 returns-3 : tie.Need-returns-3
-returns-3 c = started-went _ _ _ _ _ (c .before .before .before .before .before .before .before .before .before .before .before .before .if1 .left) _ (c .before .before .before .before .before .before .before .before .before .source-tables .ensures) _ (c .before .before .before .answer .given .1) (c .if2 .left)
+returns-3 c =
+    let at-source-tables = c .before .before .before .before .before .before .before .before .before in
+    started-went _ _ _ _ _ (at-source-tables .before .before .before .if1 .left) _ (at-source-tables .source-tables .ensures) _ (c .before .before .before .answer .given .1) (c .if2 .left)
 
 returns-4 : tie.Need-returns-4
 returns-4 c = search (needs, started-stopped)

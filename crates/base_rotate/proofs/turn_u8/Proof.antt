@@ -14,4 +14,7 @@ turn-u8-spec =
     (λ c κs. search needs)
     (λ c κs. search needs)
     (λ c. search needs)
-    (λ c. turns _ _ _ _ _ _ _ (c .before .before .before .before .before .before .before .before .before .before .before .before .before .before .before .pre .0) (c .before .before .before .before .before .before .before .before .before .before .before .before .before .before .before .pre .1 .0) (c .before .before .before .before .before .before .before .before .before .before .before .before .before .before .before .pre .1 .1) (c .before .before .before .before .before .before .before .before .before .before .reverse-u8 .ensures) (c .before .before .before .before .before .before .reverse-u82 .ensures) (c .before .before .reverse-u83 .ensures)))
+    (λ c.
+    let at-reverse-u8 = c .before .before .before .before .before .before .before .before .before .before in
+    let start = at-reverse-u8 .before .before .before .before .before in
+    turns _ _ _ _ _ _ _ (start .pre .0) (start .pre .1 .0) (start .pre .1 .1) (at-reverse-u8 .reverse-u8 .ensures) (c .before .before .before .before .before .before .reverse-u82 .ensures) (c .before .before .reverse-u83 .ensures)))

@@ -26,4 +26,9 @@ link-objects-spec =
     (λ c κs. search needs)
     (λ c. search needs)
     (λ c. search needs)
-    (λ c. objects-told _ _ _ _ (c .before .before .before .before .before .before .before .before .before .before .before .before .before .before .before .before .before .before .before .before .before .before .before .before .before .before .before .before .before .before .before .before .before .before .before .before .before .before .before .before .before .before .pre .0) (c .before .before .before .before .before .before .before .before .before .before .before .before .before .before .before .before .before .before .before .before .before .before .before .before .before .before .before .before .before .before .before .before .before .before .before .before .before .before .before .before .before .before .pre .1) _ _ (c .before .before .before .before .before .before .before .before .before .before .before .before .before .before .before .before .before .before .before .before .before .link .ensures) _ _ _ (c .before .before .before .before .before .before .before .before .before .before .before .before .before .put-blamed .ensures) _ _ _ (c .before .before .before .store-made .ensures) _ (c .answer-of .ensures)))
+    (λ c.
+    let at-store-made = c .before .before .before in
+    let at-put-blamed = at-store-made .before .before .before .before .before .before .before .before .before .before in
+    let at-link = at-put-blamed .before .before .before .before .before .before .before .before in
+    let start = at-link .before .before .before .before .before .before .before .before .before .before .before .before .before .before .before .before .before .before .before .before .before in
+    objects-told _ _ _ _ (start .pre .0) (start .pre .1) _ _ (at-link .link .ensures) _ _ _ (at-put-blamed .put-blamed .ensures) _ _ _ (at-store-made .store-made .ensures) _ (c .answer-of .ensures)))

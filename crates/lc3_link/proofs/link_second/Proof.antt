@@ -22,11 +22,22 @@ link-second-spec =
     (λ c. search needs)
     (λ c. search needs)
     (λ c. search needs)
-    (λ c κs. (c .before .before .before .before .before .before .before .before .before .before .before .before .before .before .before .before .before .before .before .before .before .before .before .before .before .before .before .before .before .before .before .before .before .pre, loaded-held _ (λ i. c .before .before .before .before .before .before .before .before .before .before .before .before .before .before .before .before .before .before .before .before .before .before .before .before .before .before .shared-slice-known7 .given i .fits) _ _ (c .before .before .before .before .before .before .before .before .before .before .before .before .before .before .before .before .before .load .ensures) (c .before .before .before .before .before .before .before .before .before .if1 .taken) _ (c .before .before .before .before .before .before .before .before .counts-of .ensures)))
+    (λ c κs.
+    let at-if1 = c .before .before .before .before .before .before .before .before .before in
+    let at-load = at-if1 .before .before .before .before .before .before .before .before in
+    let at-shared-slice-known7 = at-load .before .before .before .before .before .before .before .before .before in
+    (at-shared-slice-known7 .before .before .before .before .before .before .before .pre, loaded-held _ (λ i. at-shared-slice-known7 .shared-slice-known7 .given i .fits) _ _ (at-load .load .ensures) (at-if1 .if1 .taken) _ (c .before .before .before .before .before .before .before .before .counts-of .ensures)))
     (λ c. search needs)
     (λ c. search needs)
-    (λ c. second-told _ (λ i. c .before .before .before .before .before .before .before .before .before .before .before .before .before .before .before .before .before .before .before .before .before .before .before .before .before .before .before .before .before .before .before .shared-slice-known7 .given i .fits) _ _ (c .before .before .before .before .before .before .before .before .before .before .before .before .before .before .before .before .before .before .before .before .before .before .load .ensures) (c .before .before .before .before .before .before .before .before .before .before .before .before .before .before .if1 .taken) _ (c .before .before .before .before .before .before .before .before .before .before .before .before .before .counts-of .ensures) _ _ _ _ _ _ (c .before .before .before .before .link-objects .ensures))
+    (λ c.
+    let at-link-objects = c .before .before .before .before in
+    let at-if1 = at-link-objects .before .before .before .before .before .before .before .before .before .before in
+    let at-load = at-if1 .before .before .before .before .before .before .before .before in
+    second-told _ (λ i. at-load .before .before .before .before .before .before .before .before .before .shared-slice-known7 .given i .fits) _ _ (at-load .load .ensures) (at-if1 .if1 .taken) _ (at-link-objects .before .before .before .before .before .before .before .before .before .counts-of .ensures) _ _ _ _ _ _ (at-link-objects .link-objects .ensures))
     (λ c κs. search needs)
     (λ c κs. search needs)
     (λ c. search needs)
-    (λ c. second-refused _ (λ i. c .before .before .before .before .before .before .before .before .before .before .before .before .before .before .before .before .before .before .before .before .before .before .shared-slice-known7 .given i .fits) _ _ (c .before .before .before .before .before .before .before .before .before .before .before .before .before .load .ensures) (c .before .before .before .before .before .if1 .left) _ _ _ _ (c .before .before .before .zero-u8 .ensures) (c .answer-of .ensures) _))
+    (λ c.
+    let at-if1 = c .before .before .before .before .before in
+    let at-load = at-if1 .before .before .before .before .before .before .before .before in
+    second-refused _ (λ i. at-load .before .before .before .before .before .before .before .before .before .shared-slice-known7 .given i .fits) _ _ (at-load .load .ensures) (at-if1 .if1 .left) _ _ _ _ (c .before .before .before .zero-u8 .ensures) (c .answer-of .ensures) _))

@@ -26,4 +26,6 @@ search-spec =
     (λ c κs. search needs)
     (λ c. ident-found (c .before .before .before .before .before .before .before .before .before .before .args .s .now) (c .before .before .before .before .before .upper-case .ensures) (c .before .before .before .before .before .before .before .before .if1 .left) (c .before .before .before .before .before .before .before .if2 .left) (c .before .before .before .before .if3 .left) (c .before .before .before .if4 .left) (c .before .before .first-row .ensures) (c .before .first-row2 .ensures) (find-none _ _ _ (c .if5 .taken)))
     find-row-requires
-    (λ c. ident-found (c .before .before .before .before .before .before .before .before .before .before .before .before .args .s .now) (c .before .before .before .before .before .before .before .upper-case .ensures) (c .before .before .before .before .before .before .before .before .before .before .if1 .left) (c .before .before .before .before .before .before .before .before .before .if2 .left) (c .before .before .before .before .before .before .if3 .left) (c .before .before .before .before .before .if4 .left) (c .before .before .before .before .first-row .ensures) (c .before .before .before .first-row2 .ensures) (c .find-row .ensures)))
+    (λ c.
+    let at-if1 = c .before .before .before .before .before .before .before .before .before .before in
+    ident-found (at-if1 .before .before .args .s .now) (c .before .before .before .before .before .before .before .upper-case .ensures) (at-if1 .if1 .left) (c .before .before .before .before .before .before .before .before .before .if2 .left) (c .before .before .before .before .before .before .if3 .left) (c .before .before .before .before .before .if4 .left) (c .before .before .before .before .first-row .ensures) (c .before .before .before .first-row2 .ensures) (c .find-row .ensures)))

@@ -7,10 +7,13 @@ use Rattle.link_decide.proofs.decide.Tie as tie
 
 judge-requires : tie.Need-judge-requires
 judge-requires c κs =
+    let at-both-checked = c .before .before .before .before in
+    let at-check-object = at-both-checked .before .before in
+    let start = at-check-object .before .before .before .before .before .before .before .before .before .before .before .before .before .before .before in
     judge-ready _ _ _ _ _ _
-    (first-valid _ _ _ _ _ _ _ _ (c .before .before .before .before .before .before .check-object .ensures) (c .before .before .before .before .before .check-object2 .ensures) (c .before .before .before .before .both-checked .ensures) (c .before .before .enum-told3 .given .1))
-    (second-valid _ _ _ _ _ _ _ _ (c .before .before .before .before .before .before .check-object .ensures) (c .before .before .before .before .before .check-object2 .ensures) (c .before .before .before .before .both-checked .ensures) (c .before .before .enum-told3 .given .1))
-    (c .before .before .before .before .before .before .before .before .before .before .before .before .before .before .before .before .before .before .before .before .before .pre .0) (c .before .before .before .before .before .before .before .before .before .before .before .before .before .before .before .before .before .before .before .before .before .pre .1)
+    (first-valid _ _ _ _ _ _ _ _ (at-check-object .check-object .ensures) (at-both-checked .before .check-object2 .ensures) (at-both-checked .both-checked .ensures) (c .before .before .enum-told3 .given .1))
+    (second-valid _ _ _ _ _ _ _ _ (at-check-object .check-object .ensures) (at-both-checked .before .check-object2 .ensures) (at-both-checked .both-checked .ensures) (c .before .before .enum-told3 .given .1))
+    (start .pre .0) (start .pre .1)
 
 returns : tie.Need-returns
 returns c =
@@ -22,7 +25,8 @@ returns-2 c =
 
 returns-3 : tie.Need-returns-3
 returns-3 c =
-    decided-judged _ _ _ _ _ _ _ _ (c .before .before .before .before .before .before .before .before .before .before .before .check-object .ensures) (c .before .before .before .before .before .before .before .before .before .before .check-object2 .ensures) (c .before .before .before .before .before .before .before .before .before .both-checked .ensures) (c .before .before .before .before .before .before .before .enum-told3 .given .1) _ _ _ _ (c .before .before .before .before .judge .ensures)
+    let at-check-object2 = c .before .before .before .before .before .before .before .before .before .before in
+    decided-judged _ _ _ _ _ _ _ _ (at-check-object2 .before .check-object .ensures) (at-check-object2 .check-object2 .ensures) (c .before .before .before .before .before .before .before .before .before .both-checked .ensures) (c .before .before .before .before .before .before .before .enum-told3 .given .1) _ _ _ _ (c .before .before .before .before .judge .ensures)
 
 pub decide-spec : {M : Type 1} → statement M
 decide-spec =

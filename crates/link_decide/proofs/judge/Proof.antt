@@ -13,15 +13,19 @@ add-t24 c = let low = row-fits (c .before .before .before .before .before .befor
 
 tally-requires : tie.Need-tally-requires
 tally-requires c κs =
-    (still-carried (c .before .before .before .before .before .before .before .before .before .before .before .before .before .before .before .before .before .before .before .before .before .before .before .before .pre .relocs1) (c .before .before .before .before .before .before .before .before .before .match-labels .kept .1 .1 .1 .1 .1 .1 .0), still-carried (c .before .before .before .before .before .before .before .before .before .before .before .before .before .before .before .before .before .before .before .before .before .before .before .before .pre .relocs2) (c .before .before .before .before .before .before .before .before .before .match-labels .kept .1 .1 .1 .1 .1 .1 .1 .0), c .before .before .before .before .before .before .before .before .before .before .before .before .before .before .before .before .before .before .before .before .before .before .before .before .pre .few)
+    let at-match-labels = c .before .before .before .before .before .before .before .before .before in
+    let start = at-match-labels .before .before .before .before .before .before .before .before .before .before .before .before .before .before .before in
+    (still-carried (start .pre .relocs1) (at-match-labels .match-labels .kept .1 .1 .1 .1 .1 .1 .0), still-carried (start .pre .relocs2) (at-match-labels .match-labels .kept .1 .1 .1 .1 .1 .1 .1 .0), start .pre .few)
 
 returns-2 : tie.Need-returns-2
 returns-2 c =
-    judged-differs _ _ _ _ _ _ _ _ _ _ _ _ _ _ _ (c .before .before .before .before .before .before .before .before .before .before .before .blocks-meet .ensures) (c .before .before .before .before .before .before .before .before .before .before .if1 .left) _ (c .before .before .before .before .before .before .before .match-labels .ensures) _ (c .before .matched .given .1) refl
+    let at-if1 = c .before .before .before .before .before .before .before .before .before .before in
+    judged-differs _ _ _ _ _ _ _ _ _ _ _ _ _ _ _ (at-if1 .before .blocks-meet .ensures) (at-if1 .if1 .left) _ (c .before .before .before .before .before .before .before .match-labels .ensures) _ (c .before .matched .given .1) refl
 
 returns-3 : tie.Need-returns-3
 returns-3 c =
-    judged-weighs _ _ _ _ _ _ _ _ _ _ _ _ _ _ _ (c .before .before .before .before .before .before .before .before .before .before .before .before .before .before .before .blocks-meet .ensures) (c .before .before .before .before .before .before .before .before .before .before .before .before .before .before .if1 .left) _ (c .before .before .before .before .before .before .before .before .before .before .before .match-labels .ensures) _ (c .before .before .before .before .before .matched2 .given .1)
+    let at-matched2 = c .before .before .before .before .before in
+    judged-weighs _ _ _ _ _ _ _ _ _ _ _ _ _ _ _ (at-matched2 .before .before .before .before .before .before .before .before .before .before .blocks-meet .ensures) (at-matched2 .before .before .before .before .before .before .before .before .before .if1 .left) _ (at-matched2 .before .before .before .before .before .before .match-labels .ensures) _ (at-matched2 .matched2 .given .1)
     _ (c .weigh .ensures) (c .before .tally .ensures)
 
 pub judge-spec : {M : Type 1} → statement M

@@ -12,7 +12,13 @@ lay-labels-spec =
     (tie.spec
     (λ c κs. search needs)
     (λ c κs. search needs)
-    (λ c κs. (ready-after (c .before .before .before .before .before .before .before .before .before .before .before .before .before .before .before .before .before .before .pre) (c .before .before .before .before .before .before .before .before .zero-u32 .ensures) (c .before .before .before .before .zero-u8 .ensures), blank-of (length (c .before .before .before .before .before .before .before .before .before .before .before .before .before .before .before .before .before .before .args .labels .now)) (c .before .before .before .before .before .before .before .before .zero-u32 .ensures), blank-of (length (c .before .before .before .before .before .before .before .before .before .before .before .before .before .before .before .before .before .before .args .names .now)) (c .before .before .before .before .zero-u8 .ensures)))
+    (λ c κs.
+    let at-zero-u8 = c .before .before .before .before in
+    let at-zero-u32 = at-zero-u8 .before .before .before .before in
+    let start = at-zero-u32 .before .before .before .before .before .before .before .before .before .before in
+    (ready-after (start .pre) (at-zero-u32 .zero-u32 .ensures) (at-zero-u8 .zero-u8 .ensures), blank-of (length (start .args .labels .now)) (at-zero-u32 .zero-u32 .ensures), blank-of (length (start .args .names .now)) (at-zero-u8 .zero-u8 .ensures)))
     (λ c. search needs)
     (λ c. search needs)
-    (λ c. laid-after (c .before .before .before .before .lay-rows .ensures) (c .before .before .before .before .before .before .before .before .before .before .before .before .before .zero-u32 .ensures) (c .before .before .before .before .before .before .before .before .before .zero-u8 .ensures)))
+    (λ c.
+    let at-zero-u8 = c .before .before .before .before .before .before .before .before .before in
+    laid-after (c .before .before .before .before .lay-rows .ensures) (at-zero-u8 .before .before .before .before .zero-u32 .ensures) (at-zero-u8 .zero-u8 .ensures)))

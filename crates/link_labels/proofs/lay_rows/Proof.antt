@@ -24,21 +24,39 @@ lay-rows-spec =
     (λ c. search needs)
     (λ c. lay-all (c .before .before .before .before .before .before .before .before .before .before .before .before .pre .0) (c .before .before .before .loop .inv) (c .before .before .next-due .ensures) (c .enum-told .given .1))
     (λ c. search needs)
-    (λ c κs. first-room (c .before .before .before .before .before .before .before .before .before .before .before .before .before .before .pre .0) (c .before .before .before .before .before .loop .inv) (c .before .before .before .before .next-due .ensures) (c .before .before .enum-told2 .given .1))
+    (λ c κs.
+    let at-loop = c .before .before .before .before .before in
+    first-room (at-loop .before .before .before .before .before .before .before .before .before .pre .0) (at-loop .loop .inv) (c .before .before .before .before .next-due .ensures) (c .before .before .enum-told2 .given .1))
     (λ c. search needs)
     (λ c. search needs)
-    (λ c. first-less (c .before .before .before .before .before .before .before .before .before .before .before .before .before .before .before .before .before .before .before .pre .0) (c .before .before .before .before .before .before .before .before .before .before .loop .inv) (c .before .before .before .before .before .before .before .before .before .next-due .ensures) (c .before .before .before .before .before .before .before .enum-told2 .given .1))
-    (λ c. lay-first (c .before .before .before .before .before .before .before .before .before .before .before .before .before .before .before .before .before .before .before .pre .0) (c .before .before .before .before .before .before .before .before .before .before .loop .inv) (c .before .before .before .before .before .before .before .before .before .next-due .ensures) (c .before .before .before .before .before .before .before .enum-told2 .given .1) (c .before .before .before .before .lay-noted .ensures))
+    (λ c.
+    let at-loop = c .before .before .before .before .before .before .before .before .before .before in
+    first-less (at-loop .before .before .before .before .before .before .before .before .before .pre .0) (at-loop .loop .inv) (c .before .before .before .before .before .before .before .before .before .next-due .ensures) (c .before .before .before .before .before .before .before .enum-told2 .given .1))
+    (λ c.
+    let at-loop = c .before .before .before .before .before .before .before .before .before .before in
+    lay-first (at-loop .before .before .before .before .before .before .before .before .before .pre .0) (at-loop .loop .inv) (c .before .before .before .before .before .before .before .before .before .next-due .ensures) (c .before .before .before .before .before .before .before .enum-told2 .given .1) (c .before .before .before .before .lay-noted .ensures))
     (λ c. search needs)
-    (λ c κs. second-room (c .before .before .before .before .before .before .before .before .before .before .before .before .before .before .pre .0) (c .before .before .before .before .before .loop .inv) (c .before .before .before .before .next-due .ensures) (c .before .before .enum-told3 .given .1))
+    (λ c κs.
+    let at-loop = c .before .before .before .before .before in
+    second-room (at-loop .before .before .before .before .before .before .before .before .before .pre .0) (at-loop .loop .inv) (c .before .before .before .before .next-due .ensures) (c .before .before .enum-told3 .given .1))
     (λ c. search needs)
     (λ c. search needs)
-    (λ c. second-less (c .before .before .before .before .before .before .before .before .before .before .before .before .before .before .before .before .before .before .before .pre .0) (c .before .before .before .before .before .before .before .before .before .before .loop .inv) (c .before .before .before .before .before .before .before .before .before .next-due .ensures) (c .before .before .before .before .before .before .before .enum-told3 .given .1))
-    (λ c. lay-second (c .before .before .before .before .before .before .before .before .before .before .before .before .before .before .before .before .before .before .before .pre .0) (c .before .before .before .before .before .before .before .before .before .before .loop .inv) (c .before .before .before .before .before .before .before .before .before .next-due .ensures) (c .before .before .before .before .before .before .before .enum-told3 .given .1) (c .before .before .before .before .lay-noted2 .ensures))
+    (λ c.
+    let at-loop = c .before .before .before .before .before .before .before .before .before .before in
+    second-less (at-loop .before .before .before .before .before .before .before .before .before .pre .0) (at-loop .loop .inv) (c .before .before .before .before .before .before .before .before .before .next-due .ensures) (c .before .before .before .before .before .before .before .enum-told3 .given .1))
+    (λ c.
+    let at-loop = c .before .before .before .before .before .before .before .before .before .before in
+    lay-second (at-loop .before .before .before .before .before .before .before .before .before .pre .0) (at-loop .loop .inv) (c .before .before .before .before .before .before .before .before .before .next-due .ensures) (c .before .before .before .before .before .before .before .enum-told3 .given .1) (c .before .before .before .before .lay-noted2 .ensures))
     (λ c. search needs)
-    (λ c κs. both-room (c .before .before .before .before .before .before .before .before .before .before .before .before .before .before .pre .0) (c .before .before .before .before .before .loop .inv) (c .before .before .before .before .next-due .ensures) (c .before .before .enum-told4 .given .1))
+    (λ c κs.
+    let at-loop = c .before .before .before .before .before in
+    both-room (at-loop .before .before .before .before .before .before .before .before .before .pre .0) (at-loop .loop .inv) (c .before .before .before .before .next-due .ensures) (c .before .before .enum-told4 .given .1))
     (λ c. search needs)
     (λ c. search needs)
     (λ c. search needs)
-    (λ c. both-less (c .before .before .before .before .before .before .before .before .before .before .before .before .before .before .before .before .before .before .before .pre .0) (c .before .before .before .before .before .before .before .before .before .before .loop .inv) (c .before .before .before .before .before .before .before .before .before .next-due .ensures) (c .before .before .before .before .before .before .before .enum-told4 .given .1))
-    (λ c. lay-both (c .before .before .before .before .before .before .before .before .before .before .before .before .before .before .before .before .before .before .before .pre .0) (c .before .before .before .before .before .before .before .before .before .before .loop .inv) (c .before .before .before .before .before .before .before .before .before .next-due .ensures) (c .before .before .before .before .before .before .before .enum-told4 .given .1) (c .before .before .before .before .lay-noted3 .ensures)))
+    (λ c.
+    let at-loop = c .before .before .before .before .before .before .before .before .before .before in
+    both-less (at-loop .before .before .before .before .before .before .before .before .before .pre .0) (at-loop .loop .inv) (c .before .before .before .before .before .before .before .before .before .next-due .ensures) (c .before .before .before .before .before .before .before .enum-told4 .given .1))
+    (λ c.
+    let at-loop = c .before .before .before .before .before .before .before .before .before .before in
+    lay-both (at-loop .before .before .before .before .before .before .before .before .before .pre .0) (at-loop .loop .inv) (c .before .before .before .before .before .before .before .before .before .next-due .ensures) (c .before .before .before .before .before .before .before .enum-told4 .given .1) (c .before .before .before .before .lay-noted3 .ensures)))

@@ -29,24 +29,35 @@ match-labels-spec =
     (λ c. search needs)
     (λ c. search needs)
     (λ c. less-first (c .before .before .before .before .before .before .next-side .ensures) (c .before .before .before .before .enum-told2 .given .1))
-    (λ c. match-first (c .before .before .before .before .before .before .before .before .before .before .before .before .before .before .pre) (c .before .before .before .before .before .before .before .loop .inv) (c .before .before .before .before .before .before .next-side .ensures) (c .before .before .before .before .enum-told2 .given .1) (c .before .before .note-own .ensures))
+    (λ c.
+    let at-loop = c .before .before .before .before .before .before .before in
+    match-first (at-loop .before .before .before .before .before .before .before .pre) (at-loop .loop .inv) (c .before .before .before .before .before .before .next-side .ensures) (c .before .before .before .before .enum-told2 .given .1) (c .before .before .note-own .ensures))
     (λ c. search needs)
     (λ c κs. search (needs, second-row, second-note, few-rows))
     (λ c. search needs)
     (λ c. search needs)
     (λ c. less-second (c .before .before .before .before .before .before .next-side .ensures) (c .before .before .before .before .enum-told3 .given .1))
-    (λ c. match-second (c .before .before .before .before .before .before .before .before .before .before .before .before .before .before .pre) (c .before .before .before .before .before .before .before .loop .inv) (c .before .before .before .before .before .before .next-side .ensures) (c .before .before .before .before .enum-told3 .given .1) (c .before .before .note-own2 .ensures))
+    (λ c.
+    let at-loop = c .before .before .before .before .before .before .before in
+    match-second (at-loop .before .before .before .before .before .before .before .pre) (at-loop .loop .inv) (c .before .before .before .before .before .before .next-side .ensures) (c .before .before .before .before .enum-told3 .given .1) (c .before .before .note-own2 .ensures))
     (λ c. search needs)
     (λ c κs. (both-row-first (c .before .before .before .before .before .before .before .before .before .before .pre) (c .before .before .before .loop .inv) (c .before .before .next-side .ensures) (c .enum-told4 .given .1), both-row-second (c .before .before .before .before .before .before .before .before .before .before .pre) (c .before .before .before .loop .inv) (c .before .before .next-side .ensures) (c .enum-told4 .given .1)))
     (λ c. search needs)
     (λ c. search needs)
     (λ c. search needs)
-    (λ c. match-apart (c .before .before .before .before .before .before .before .before .before .before .before .before .before .pre) (c .before .before .before .before .before .before .loop .inv) (c .before .before .before .before .before .next-side .ensures) (c .before .before .before .enum-told4 .given .1) (c .before .before .join-rows .ensures) (c .enum-told5 .given .1))
+    (λ c.
+    let at-loop = c .before .before .before .before .before .before in
+    match-apart (at-loop .before .before .before .before .before .before .before .pre) (at-loop .loop .inv) (c .before .before .before .before .before .next-side .ensures) (c .before .before .before .enum-told4 .given .1) (c .before .before .join-rows .ensures) (c .enum-told5 .given .1))
     (λ c. search needs)
     (λ c κs. search (needs, both-note-first, few-rows))
     (λ c κs. search (needs, both-note-second, few-rows))
     (λ c. search needs)
     (λ c. search needs)
     (λ c. search needs)
-    (λ c. less-both (c .before .before .before .before .before .before .before .before .before .before .before .before .before .before .next-side .ensures) (c .before .before .before .before .before .before .before .before .before .before .before .before .enum-told4 .given .1))
-    (λ c. match-both (c .before .before .before .before .before .before .before .before .before .before .before .before .before .before .before .before .before .before .before .before .before .before .pre) (c .before .before .before .before .before .before .before .before .before .before .before .before .before .before .before .loop .inv) (c .before .before .before .before .before .before .before .before .before .before .before .before .before .before .next-side .ensures) (c .before .before .before .before .before .before .before .before .before .before .before .before .enum-told4 .given .1) (c .before .before .before .before .before .before .before .before .before .before .before .join-rows .ensures) (search needs) (c .before .before .before .before .before .before .note .ensures) (c .before .before .note2 .ensures)))
+    (λ c.
+    let at-enum-told4 = c .before .before .before .before .before .before .before .before .before .before .before .before in
+    less-both (at-enum-told4 .before .before .next-side .ensures) (at-enum-told4 .enum-told4 .given .1))
+    (λ c.
+    let at-note = c .before .before .before .before .before .before in
+    let at-loop = at-note .before .before .before .before .before .before .before .before .before in
+    match-both (at-loop .before .before .before .before .before .before .before .pre) (at-loop .loop .inv) (at-note .before .before .before .before .before .before .before .before .next-side .ensures) (at-note .before .before .before .before .before .before .enum-told4 .given .1) (at-note .before .before .before .before .before .join-rows .ensures) (search needs) (at-note .note .ensures) (c .before .before .note2 .ensures)))

@@ -1,6 +1,7 @@
 -- `link_relocations::merge_relocations` meets its contract. Assumes nothing.
+use Rattle.base_buffers.proofs.Filled.{laid-after}
 use Rattle.object_layout_labels.proofs.Loop.{blank-of}
-use Rattle.link_relocations.proofs.Merging.{both-after, laid-after}
+use Rattle.link_relocations.proofs.Merging.{both-after}
 use borrow.Author.Needs.{needs}
 use Rattle.link_relocations.proofs.merge_relocations.Statement.{statement}
 use Rattle.link_relocations.proofs.merge_relocations.Tie as tie

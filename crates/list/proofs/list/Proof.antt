@@ -7,7 +7,9 @@ use Rattle.list.proofs.list.Statement.{statement}
 use Rattle.list.proofs.list.Tie as tie
 
 list-object-requires : tie.Need-list-object-requires
-list-object-requires c κs = (checked-valid _ (c .before .before .before .check-object .ensures) (c .before .enum-told .given .1), zeros-still _ (length (c .before .before .before .before .before .before .before .before .before .before .before .before .before .before .before .args .out .now)) (c .before .before .before .before .before .before .zero-u8 .ensures))
+list-object-requires c κs =
+    let at-zero-u8 = c .before .before .before .before .before .before in
+    (checked-valid _ (c .before .before .before .check-object .ensures) (c .before .enum-told .given .1), zeros-still _ (length (at-zero-u8 .before .before .before .before .before .before .before .before .before .args .out .now)) (at-zero-u8 .zero-u8 .ensures))
 
 returns : tie.Need-returns
 returns c = writes-object _ _ _ _ (c .before .before .before .before .before .before .check-object .ensures) _ _ _ _ (c .before .before .before .before .enum-told .given .1) (c .before .before .before .before .before .before .before .before .before .zero-u8 .ensures) (c .before .before .list-object .ensures)

@@ -22,12 +22,16 @@ put-labels-requires c κs =
 
 put-relocations-requires : tie.Need-put-relocations-requires
 put-relocations-requires c κs =
-    let v = c .before .before .before .before .before .before .before .before .before .before .before .before .before .before .before .before .before .before .pre .0 in
-    let room = third-fits _ _ (c .before .before .before .before .before .before .before .before .before .before .listing-size .ensures) _ _ _ _ _ (c .before .before .before .before .before .before .before .before .before .if1 .left) (c .before .before .before .before .before .before .before .put-blocks .ensures) (c .before .before .before .put-labels .ensures) in
+    let at-listing-size = c .before .before .before .before .before .before .before .before .before .before in
+    let v = at-listing-size .before .before .before .before .before .before .before .before .pre .0 in
+    let room = third-fits _ _ (at-listing-size .listing-size .ensures) _ _ _ _ _ (c .before .before .before .before .before .before .before .before .before .if1 .left) (c .before .before .before .before .before .before .before .put-blocks .ensures) (c .before .before .before .put-labels .ensures) in
     (relocs-low _ _ v, room)
 
 returns-2 : tie.Need-returns-2
-returns-2 c = all-written _ _ (c .before .before .before .before .before .before .before .before .before .before .before .before .before .listing-size .ensures) _ _ _ _ _ _ _ (c .before .before .before .before .before .before .before .before .before .before .before .before .before .before .before .before .before .before .before .before .before .pre .1) (c .before .before .before .before .before .before .before .before .before .before .before .before .if1 .left) (c .before .before .before .before .before .before .before .before .before .before .put-blocks .ensures) (c .before .before .before .before .before .before .put-labels .ensures) (c .before .before .put-relocations .ensures)
+returns-2 c =
+    let at-put-blocks = c .before .before .before .before .before .before .before .before .before .before in
+    let at-listing-size = at-put-blocks .before .before .before in
+    all-written _ _ (at-listing-size .listing-size .ensures) _ _ _ _ _ _ _ (at-listing-size .before .before .before .before .before .before .before .before .pre .1) (at-put-blocks .before .before .if1 .left) (at-put-blocks .put-blocks .ensures) (c .before .before .before .before .before .before .put-labels .ensures) (c .before .before .put-relocations .ensures)
 
 pub list-object-spec : {M : Type 1} → statement M
 list-object-spec =

@@ -30,13 +30,19 @@ step-requires : tie.Need-step-requires Inv-loop μ-loop
 step-requires c κs = (search needs, going-stands _ _ _ _ _ _ _ (c .before .before .before .before .before .before .before .before .loop .inv) _ (c .before .before .before .before .before .before .before .next-statement .ensures) _ (c .before .before .before .before .before .st .given .1), going-heads _ _ _ _ _ _ _ (c .before .before .before .before .before .before .before .before .loop .inv) _ (c .before .before .before .before .before .before .before .next-statement .ensures) _ (c .before .before .before .before .before .st .given .1))
 
 loop-less-2 : tie.Need-loop-less-2 Inv-loop μ-loop
-loop-less-2 c = rest-less _ _ _ (c .before .before .before .before .before .before .before .before .before .before .before .before .before .before .before .next-statement .ensures) _ (c .before .before .before .before .before .before .before .before .before .before .before .before .before .st .given .1)
+loop-less-2 c =
+    let at-st = c .before .before .before .before .before .before .before .before .before .before .before .before .before in
+    rest-less _ _ _ (at-st .before .before .next-statement .ensures) _ (at-st .st .given .1)
 
 loop-again-2 : tie.Need-loop-again-2 Inv-loop μ-loop
-loop-again-2 c = going-on _ _ _ _ _ _ _ (c .before .before .before .before .before .before .before .before .before .before .before .before .before .before .before .before .loop .inv) _ (c .before .before .before .before .before .before .before .before .before .before .before .before .before .before .before .next-statement .ensures) _ (c .before .before .before .before .before .before .before .before .before .before .before .before .before .st .given .1) _ _ _ (c .before .before .before .before .before .before .before .step .ensures) _ (c .before .answer .given .1) (search needs) (search needs)
+loop-again-2 c =
+    let at-step = c .before .before .before .before .before .before .before in
+    going-on _ _ _ _ _ _ _ (at-step .before .before .before .before .before .before .before .before .before .loop .inv) _ (at-step .before .before .before .before .before .before .before .before .next-statement .ensures) _ (at-step .before .before .before .before .before .before .st .given .1) _ _ _ (at-step .step .ensures) _ (c .before .answer .given .1) (search needs) (search needs)
 
 returns : tie.Need-returns Inv-loop μ-loop
-returns c = going-refused _ _ _ _ _ _ _ (c .before .before .before .before .before .before .before .before .before .before .before .before .before .before .before .loop .inv) _ (c .before .before .before .before .before .before .before .before .before .before .before .before .before .before .next-statement .ensures) _ (c .before .before .before .before .before .before .before .before .before .before .before .before .st .given .1) _ _ _ (c .before .before .before .before .before .before .step .ensures) _ _ _ _ _ (c .enum-told .given .1)
+returns c =
+    let at-step = c .before .before .before .before .before .before in
+    going-refused _ _ _ _ _ _ _ (at-step .before .before .before .before .before .before .before .before .before .loop .inv) _ (at-step .before .before .before .before .before .before .before .before .next-statement .ensures) _ (at-step .before .before .before .before .before .before .st .given .1) _ _ _ (at-step .step .ensures) _ _ _ _ _ (c .enum-told .given .1)
 
 returns-2 : tie.Need-returns-2 Inv-loop μ-loop
 returns-2 c = going-end _ _ _ _ _ _ _ (c .before .before .before .before .loop .inv) _ (c .before .before .before .next-statement .ensures) (c .before .enum-told2 .given .1) _ (c .finish .ensures)

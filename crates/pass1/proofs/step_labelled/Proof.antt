@@ -8,7 +8,9 @@ step-on-requires : tie.Need-step-on-requires
 step-on-requires c κs = (step-held _ _ _ _ (c .before .before .before .before .before .before .before .before .before .before .before .before .pre .0) _ _ _ (c .before .before .before .before .before .before .before .define-labels .ensures) _ (c .before .before .before .answer .given .1), search needs)
 
 returns : tie.Need-returns
-returns c = step-went _ _ _ _ (c .before .before .before .before .before .before .before .before .before .before .before .before .before .before .before .before .before .pre .0) _ _ _ _ (c .before .before .before .before .before .before .before .before .before .before .before .before .define-labels .ensures) _ (c .before .before .before .before .before .before .before .before .answer .given .1) _ _ _ (c .before .before .before .before .step-on .ensures)
+returns c =
+    let at-answer = c .before .before .before .before .before .before .before .before in
+    step-went _ _ _ _ (at-answer .before .before .before .before .before .before .before .before .before .pre .0) _ _ _ _ (at-answer .before .before .before .before .define-labels .ensures) _ (at-answer .answer .given .1) _ _ _ (c .before .before .before .before .step-on .ensures)
 
 returns-2 : tie.Need-returns-2
 returns-2 c = step-refused _ _ _ _ (c .before .before .before .before .before .before .before .before .before .pre .0) _ _ _ _ (c .before .before .before .before .define-labels .ensures) _ _ _ _ _ (c .enum-told .given .1)

@@ -5,7 +5,10 @@ use Rattle.pass1_fill.proofs.fill_label.Statement.{statement}
 use Rattle.pass1_fill.proofs.fill_label.Tie as tie
 
 returns : tie.Need-returns
-returns c = λ s t a n p. fill-noted _ _ _ _ (c .before .before .before .before .before .before .before .before .before .before .before .before .before .pre .0) _ _ (c .before .before .before .before .before .before .before .before .before .before .before .before .before .pre .1) _ _ (c .before .before .before .before .before .before .before .before .before .narrow .ensures) (c .before .before .before .before .before .before .before .before .narrow2 .ensures) _ (c .before .before .before .before .before .before .before .is-external .ensures) _ _ s t a n p (c .before .before .before .before .before .before .if1 .taken) (c .before .before .before .before .before .if2 .taken) _ (search needs) _ (c .before .before .before .add-relocation .ensures) _ (c .step-of .ensures)
+returns c =
+    let at-narrow = c .before .before .before .before .before .before .before .before .before in
+    let start = at-narrow .before .before .before .before in
+    λ s t a n p. fill-noted _ _ _ _ (start .pre .0) _ _ (start .pre .1) _ _ (at-narrow .narrow .ensures) (c .before .before .before .before .before .before .before .before .narrow2 .ensures) _ (c .before .before .before .before .before .before .before .is-external .ensures) _ _ s t a n p (c .before .before .before .before .before .before .if1 .taken) (c .before .before .before .before .before .if2 .taken) _ (search needs) _ (c .before .before .before .add-relocation .ensures) _ (c .step-of .ensures)
 
 returns-2 : tie.Need-returns-2
 returns-2 c = λ s t a n p. fill-21 _ _ _ _ (c .before .before .before .before .before .before .before .before .before .pre .0) _ _ (c .before .before .before .before .before .before .before .before .before .pre .1) _ _ (c .before .before .before .before .before .narrow .ensures) (c .before .before .before .before .narrow2 .ensures) _ (c .before .before .before .is-external .ensures) _ _ s t a n p (c .before .before .if1 .taken) (c .before .if2 .left) _ (c .refused .ensures)

@@ -8,13 +8,19 @@ add-symbol-requires : tie.Need-add-symbol-requires
 add-symbol-requires c κs = ready _ _ _ _ _ _ _ (c .before .before .before .before .before .pre) _ _ (c .before .before .narrow .ensures) (c .before .narrow2 .ensures)
 
 clash-requires : tie.Need-clash-requires
-clash-requires c κs = clash-in _ _ _ _ _ _ _ (c .before .before .before .before .before .before .before .before .before .before .before .before .pre) _ _ (c .before .before .before .before .before .before .before .before .before .narrow .ensures) (c .before .before .before .before .before .before .before .before .narrow2 .ensures) _ _ (c .before .before .before .before .before .before .add-symbol .ensures) 0 0 _ (c .before .before .k .given .1)
+clash-requires c κs =
+    let at-narrow = c .before .before .before .before .before .before .before .before .before in
+    clash-in _ _ _ _ _ _ _ (at-narrow .before .before .before .pre) _ _ (at-narrow .narrow .ensures) (c .before .before .before .before .before .before .before .before .narrow2 .ensures) _ _ (c .before .before .before .before .before .before .add-symbol .ensures) 0 0 _ (c .before .before .k .given .1)
 
 returns : tie.Need-returns
-returns c = name-held _ _ _ _ _ _ _ (c .before .before .before .before .before .before .before .before .before .before .before .pre) _ _ (c .before .before .before .before .before .before .before .before .narrow .ensures) (c .before .before .before .before .before .before .before .narrow2 .ensures) _ _ (c .before .before .before .before .before .add-symbol .ensures) _ _ _ (c .before .m .given .1)
+returns c =
+    let at-narrow = c .before .before .before .before .before .before .before .before in
+    name-held _ _ _ _ _ _ _ (at-narrow .before .before .before .pre) _ _ (at-narrow .narrow .ensures) (c .before .before .before .before .before .before .before .narrow2 .ensures) _ _ (c .before .before .before .before .before .add-symbol .ensures) _ _ _ (c .before .m .given .1)
 
 returns-2 : tie.Need-returns-2
-returns-2 c = name-clash _ _ _ _ _ _ _ (c .before .before .before .before .before .before .before .before .before .before .before .before .before .pre) _ _ (c .before .before .before .before .before .before .before .before .before .before .narrow .ensures) (c .before .before .before .before .before .before .before .before .before .narrow2 .ensures) _ _ (c .before .before .before .before .before .before .before .add-symbol .ensures) _ _ _ (c .before .before .before .k .given .1) _ (c .clash .ensures)
+returns-2 c =
+    let at-narrow = c .before .before .before .before .before .before .before .before .before .before in
+    name-clash _ _ _ _ _ _ _ (at-narrow .before .before .before .pre) _ _ (at-narrow .narrow .ensures) (c .before .before .before .before .before .before .before .before .before .narrow2 .ensures) _ _ (c .before .before .before .before .before .before .before .add-symbol .ensures) _ _ _ (c .before .before .before .k .given .1) _ (c .clash .ensures)
 
 returns-3 : tie.Need-returns-3
 returns-3 c = name-full _ _ _ _ _ _ _ (c .before .before .before .before .before .before .before .before .before .before .pre) _ _ (c .before .before .before .before .before .before .before .narrow .ensures) (c .before .before .before .before .before .before .narrow2 .ensures) _ _ (c .before .before .before .before .add-symbol .ensures) _ _ (c .enum-told .given .1)

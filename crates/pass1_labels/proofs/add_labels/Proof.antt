@@ -23,10 +23,14 @@ add-label-requires : tie.Need-add-label-requires Inv-loop μ-loop
 add-label-requires c κs = going-ready _ _ _ _ _ _ _ _ _ (c .before .before .before .before .before .loop .inv) _ (c .before .before .before .before .label-before .ensures) _ _ _ (c .before .before .from .given .1)
 
 loop-less : tie.Need-loop-less Inv-loop μ-loop
-loop-less c = going-less _ _ _ _ _ _ _ _ _ (c .before .before .before .before .before .before .before .before .before .before .before .loop .inv) _ (c .before .before .before .before .before .before .before .before .before .before .label-before .ensures) _ _ _ (c .before .before .before .before .before .before .before .before .from .given .1)
+loop-less c =
+    let at-label = c .before .before .before .before .before .before .before .before .before .before in
+    going-less _ _ _ _ _ _ _ _ _ (at-label .before .loop .inv) _ (at-label .label-before .ensures) _ _ _ (c .before .before .before .before .before .before .before .before .from .given .1)
 
 loop-again : tie.Need-loop-again Inv-loop μ-loop
-loop-again c = going-on _ _ _ _ _ _ _ _ _ (c .before .before .before .before .before .before .before .before .before .before .before .loop .inv) _ (c .before .before .before .before .before .before .before .before .before .before .label-before .ensures) _ _ _ (c .before .before .before .before .before .before .before .before .from .given .1) _ _ (c .before .before .before .before .before .add-label .ensures) _ (c .before .answer .given .1) (search needs)
+loop-again c =
+    let at-label = c .before .before .before .before .before .before .before .before .before .before in
+    going-on _ _ _ _ _ _ _ _ _ (at-label .before .loop .inv) _ (at-label .label-before .ensures) _ _ _ (c .before .before .before .before .before .before .before .before .from .given .1) _ _ (c .before .before .before .before .before .add-label .ensures) _ (c .before .answer .given .1) (search needs)
 
 returns : tie.Need-returns Inv-loop μ-loop
 returns c = going-refused _ _ _ _ _ _ _ _ _ (c .before .before .before .before .before .before .before .before .before .before .loop .inv) _ (c .before .before .before .before .before .before .before .before .before .label-before .ensures) _ _ _ (c .before .before .before .before .before .before .before .from .given .1) _ _ (c .before .before .before .before .add-label .ensures) _ _ _ _ _ (c .enum-told .given .1)

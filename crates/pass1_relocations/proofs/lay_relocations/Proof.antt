@@ -1,6 +1,7 @@
 -- `pass1_relocations::lay_relocations` meets its contract. Assumes nothing.
+use Rattle.base_buffers.proofs.Filled.{laid-after}
 use Rattle.object_layout_labels.proofs.Loop.{blank-of}
-use Rattle.pass1_relocations.proofs.Laid.{room-after, laid-after}
+use Rattle.pass1_relocations.proofs.Laid.{room-after}
 use borrow.Author.Needs.{needs}
 use Rattle.pass1_relocations.proofs.lay_relocations.Statement.{statement}
 use Rattle.pass1_relocations.proofs.lay_relocations.Tie as tie

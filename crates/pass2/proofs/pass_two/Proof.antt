@@ -23,22 +23,35 @@ put-known-requires c κs =
     (going-room _ _ _ _ _ _ _ _ _ _ _ _ _ (c .before .before .before .before .before .before .before .before .loop .inv) _ (c .before .before .before .before .before .before .before .next-statement .ensures) _ (c .before .before .before .before .before .st .given .1) k, going-low _ _ _ _ _ _ _ _ _ _ _ _ _ (c .before .before .before .before .before .before .before .before .loop .inv) _ (c .before .before .before .before .before .before .before .next-statement .ensures) _ (c .before .before .before .before .before .st .given .1) k)
 
 loop-less : tie.Need-loop-less Inv-loop μ-loop
-loop-less c = rest-less _ _ _ (c .before .before .before .before .before .before .before .before .before .before .before .before .next-statement .ensures) _ (c .before .before .before .before .before .before .before .before .before .before .st .given .1)
+loop-less c =
+    let at-st = c .before .before .before .before .before .before .before .before .before .before in
+    rest-less _ _ _ (at-st .before .before .next-statement .ensures) _ (at-st .st .given .1)
 
 loop-again : tie.Need-loop-again Inv-loop μ-loop
-loop-again c = going-known _ _ _ _ _ _ _ _ _ _ _ _ _ (c .before .before .before .before .before .before .before .before .before .before .before .before .before .loop .inv) _ (c .before .before .before .before .before .before .before .before .before .before .before .before .next-statement .ensures) _ (c .before .before .before .before .before .before .before .before .before .before .st .given .1) (is-known _ _ (c .before .before .before .before .before .before .before .before .is-known .ensures) (c .before .before .before .before .before .before .before .if1 .taken)) _ _ _ (c .before .before .before .before .put-known .ensures) (search needs) (search needs)
+loop-again c =
+    let at-st = c .before .before .before .before .before .before .before .before .before .before in
+    going-known _ _ _ _ _ _ _ _ _ _ _ _ _ (at-st .before .before .before .loop .inv) _ (at-st .before .before .next-statement .ensures) _ (at-st .st .given .1) (is-known _ _ (c .before .before .before .before .before .before .before .before .is-known .ensures) (c .before .before .before .before .before .before .before .if1 .taken)) _ _ _ (c .before .before .before .before .put-known .ensures) (search needs) (search needs)
 
 write-statement-requires : tie.Need-write-statement-requires Inv-loop μ-loop
 write-statement-requires c κs = going-writes _ _ _ _ _ _ _ _ _ _ _ _ _ (c .before .before .before .before .before .before .before .before .before .before .loop .inv) _ (c .before .before .before .before .before .before .before .before .before .next-statement .ensures) _ (c .before .before .before .before .before .before .before .st .given .1)
 
 loop-less-2 : tie.Need-loop-less-2 Inv-loop μ-loop
-loop-less-2 c = rest-less _ _ _ (c .before .before .before .before .before .before .before .before .before .before .before .before .before .before .before .before .before .before .before .before .before .next-statement .ensures) _ (c .before .before .before .before .before .before .before .before .before .before .before .before .before .before .before .before .before .before .before .st .given .1)
+loop-less-2 c =
+    let at-st = c .before .before .before .before .before .before .before .before .before .before .before .before .before .before .before .before .before .before .before in
+    rest-less _ _ _ (at-st .before .before .next-statement .ensures) _ (at-st .st .given .1)
 
 loop-again-2 : tie.Need-loop-again-2 Inv-loop μ-loop
-loop-again-2 c = going-on _ _ _ _ _ _ _ _ _ _ _ _ _ (c .before .before .before .before .before .before .before .before .before .before .before .before .before .before .before .before .before .before .before .before .before .before .loop .inv) _ (c .before .before .before .before .before .before .before .before .before .before .before .before .before .before .before .before .before .before .before .before .before .next-statement .ensures) _ (c .before .before .before .before .before .before .before .before .before .before .before .before .before .before .before .before .before .before .before .st .given .1) _ _ _ _ _ (c .before .before .before .before .before .before .before .before .before .before .before .write-statement .ensures) _ (c .before .answer .given .1) (search needs) (search needs) (search needs) (search needs)
+loop-again-2 c =
+    let at-answer = c .before in
+    let at-write-statement = at-answer .before .before .before .before .before .before .before .before .before .before in
+    let at-next-statement = at-write-statement .before .before .before .before .before .before .before .before .before .before in
+    going-on _ _ _ _ _ _ _ _ _ _ _ _ _ (at-next-statement .before .loop .inv) _ (at-next-statement .next-statement .ensures) _ (at-write-statement .before .before .before .before .before .before .before .before .st .given .1) _ _ _ _ _ (at-write-statement .write-statement .ensures) _ (at-answer .answer .given .1) (search needs) (search needs) (search needs) (search needs)
 
 returns : tie.Need-returns Inv-loop μ-loop
-returns c = going-refused _ _ _ _ _ _ _ _ _ _ _ _ _ (c .before .before .before .before .before .before .before .before .before .before .before .before .before .before .before .before .before .before .before .before .before .loop .inv) _ (c .before .before .before .before .before .before .before .before .before .before .before .before .before .before .before .before .before .before .before .before .next-statement .ensures) _ (c .before .before .before .before .before .before .before .before .before .before .before .before .before .before .before .before .before .before .st .given .1) _ _ _ _ _ (c .before .before .before .before .before .before .before .before .before .before .write-statement .ensures) _ _ _ _ _ (c .enum-told .given .1)
+returns c =
+    let at-write-statement = c .before .before .before .before .before .before .before .before .before .before in
+    let at-next-statement = at-write-statement .before .before .before .before .before .before .before .before .before .before in
+    going-refused _ _ _ _ _ _ _ _ _ _ _ _ _ (at-next-statement .before .loop .inv) _ (at-next-statement .next-statement .ensures) _ (at-write-statement .before .before .before .before .before .before .before .before .st .given .1) _ _ _ _ _ (at-write-statement .write-statement .ensures) _ _ _ _ _ (c .enum-told .given .1)
 
 returns-2 : tie.Need-returns-2 Inv-loop μ-loop
 returns-2 c = going-end _ _ _ _ _ _ _ _ _ _ _ _ _ (c .before .before .before .loop .inv) _ (c .before .before .next-statement .ensures) (c .enum-told2 .given .1)

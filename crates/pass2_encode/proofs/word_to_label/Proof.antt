@@ -14,7 +14,9 @@ word16-requires : tie.Need-word16-requires
 word16-requires c κs = search (needs, address-low)
 
 returns : tie.Need-returns
-returns c = to-label _ _ _ _ (c .before .before .before .before .before .before .before .before .before .before .before .before .pre .0) _ (c .before .before .before .before .before .before .before .before .before .label-row .ensures) _ (c .before .before .before .before .before .before .before .k .given .1) _ _ _ (c .before .before .before .before .before .cell .ensures) (c .before .before .before .before .if1 .taken) (c .before .before .before .cell2 .ensures) _ (c .before .before .word16 .ensures) _ (c .before .word162 .ensures) _ (c .offset-word .ensures)
+returns c =
+    let at-label-row = c .before .before .before .before .before .before .before .before .before in
+    to-label _ _ _ _ (at-label-row .before .before .before .pre .0) _ (at-label-row .label-row .ensures) _ (c .before .before .before .before .before .before .before .k .given .1) _ _ _ (c .before .before .before .before .before .cell .ensures) (c .before .before .before .before .if1 .taken) (c .before .before .before .cell2 .ensures) _ (c .before .before .word16 .ensures) _ (c .before .word162 .ensures) _ (c .offset-word .ensures)
 
 returns-2 : tie.Need-returns-2
 returns-2 c = search (needs, to-external)

@@ -18,7 +18,9 @@ add-k c = let h = run-room _ _ _ _ _ _ _ _ _ (c .before .before .before .before 
 
 add-k-2 : tie.Need-add-k-2 Inv-loop μ-loop
 add-k-2 c =
-    let h = behind-fits _ _ _ _ _ _ _ _ _ _ _ _ _ (c .before .before .before .before .before .before .before .before .before .before .before .before .before .before .before .before .before .before .before .before .loop .inv) (c .before .before .before .before .before .before .before .before .before .before .before .before .before .before .before .before .before .before .before .plain-end .ensures) (c .before .before .before .before .before .before .before .before .before .before .before .before .before .before .before .before .put-plain .ensures) (search needs) (search needs) (c .before .before .before .before .before .before .before .before .before .before .before .string-char .ensures) _ _ (c .before .before .before .before .before .before .before .before .before .byte .given .1) in
+    let at-byte = c .before .before .before .before .before .before .before .before .before in
+    let at-plain-end = at-byte .before .before .before .before .before .before .before .before .before .before in
+    let h = behind-fits _ _ _ _ _ _ _ _ _ _ _ _ _ (at-plain-end .before .loop .inv) (at-plain-end .plain-end .ensures) (at-byte .before .before .before .before .before .before .before .put-plain .ensures) (search needs) (search needs) (at-byte .before .before .string-char .ensures) _ _ (at-byte .byte .given .1) in
     search needs
 
 loop-again : tie.Need-loop-again Inv-loop μ-loop
@@ -28,7 +30,9 @@ loop-again c =
     behind-on _ _ _ _ _ _ _ _ _ _ _ _ _ (put .before .before .before .before .loop .inv) (put .before .before .before .plain-end .ensures) (put .put-plain .ensures) (search needs) (search needs) (told .before .before .string-char .ensures) _ _ (told .byte .given .1) _ _ _ (c .before .before .before .before .before .word8 .ensures) (c .before .before .before .before .push .ensures) (search needs) (search needs)
 
 returns : tie.Need-returns Inv-loop μ-loop
-returns c = behind-done _ _ _ _ _ _ _ _ _ _ _ _ _ (c .before .before .before .before .before .before .before .before .before .before .before .loop .inv) (c .before .before .before .before .before .before .before .before .before .before .plain-end .ensures) (c .before .before .before .before .before .before .before .put-plain .ensures) (search needs) (search needs) (c .before .before .string-char .ensures) (c .enum-told .given .1)
+returns c =
+    let at-plain-end = c .before .before .before .before .before .before .before .before .before .before in
+    behind-done _ _ _ _ _ _ _ _ _ _ _ _ _ (at-plain-end .before .loop .inv) (at-plain-end .plain-end .ensures) (c .before .before .before .before .before .before .before .put-plain .ensures) (search needs) (search needs) (c .before .before .string-char .ensures) (c .enum-told .given .1)
 
 pub put-chars-spec : {M : Type 1} → statement M
 put-chars-spec =

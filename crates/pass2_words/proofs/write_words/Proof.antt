@@ -17,16 +17,22 @@ put-string-requires : tie.Need-put-string-requires
 put-string-requires c κs = search (needs, string-fits)
 
 returns : tie.Need-returns
-returns c = λ at s f. wrote-instr _ _ _ _ _ _ _ _ (c .before .before .before .before .before .before .before .before .before .before .before .before .before .before .pre) at s f _ _ _ _ (c .before .before .before .before .put-answer .ensures) (c .before .before .before .before .before .before .before .before .enum-told .given .1) (c .before .before .before .before .before .before .before .instr-word .ensures at s f)
+returns c =
+    let at-enum-told = c .before .before .before .before .before .before .before .before in
+    λ at s f. wrote-instr _ _ _ _ _ _ _ _ (at-enum-told .before .before .before .before .before .before .pre) at s f _ _ _ _ (c .before .before .before .before .put-answer .ensures) (at-enum-told .enum-told .given .1) (c .before .before .before .before .before .before .before .instr-word .ensures at s f)
 
 returns-2 : tie.Need-returns-2
-returns-2 c = λ at s f. wrote-fill _ _ _ _ _ _ _ _ (c .before .before .before .before .before .before .before .before .before .before .before .before .before .before .pre) at s f _ _ _ _ (c .before .before .before .before .put-answer2 .ensures) (c .before .before .before .before .before .before .before .before .enum-told2 .given .1) (c .before .before .before .before .before .before .before .fill-word .ensures at s f _)
+returns-2 c =
+    let at-enum-told2 = c .before .before .before .before .before .before .before .before in
+    λ at s f. wrote-fill _ _ _ _ _ _ _ _ (at-enum-told2 .before .before .before .before .before .before .pre) at s f _ _ _ _ (c .before .before .before .before .put-answer2 .ensures) (at-enum-told2 .enum-told2 .given .1) (c .before .before .before .before .before .before .before .fill-word .ensures at s f _)
 
 returns-3 : tie.Need-returns-3
 returns-3 c = λ at s f. wrote-blkw _ _ _ _ _ _ _ _ (c .before .before .before .before .before .before .before .pre) at s f (c .before .enum-told3 .given .1) _ (c .wide .ensures .0)
 
 returns-4 : tie.Need-returns-4
-returns-4 c = λ at s f. wrote-string _ _ _ _ _ _ _ _ (c .before .before .before .before .before .before .before .before .before .before .before .before .before .pre) at s f (c .before .before .before .before .before .before .before .enum-told4 .given .1) _ _ _ (c .before .before .before .before .put-string .ensures)
+returns-4 c =
+    let at-enum-told4 = c .before .before .before .before .before .before .before in
+    λ at s f. wrote-string _ _ _ _ _ _ _ _ (at-enum-told4 .before .before .before .before .before .before .pre) at s f (at-enum-told4 .enum-told4 .given .1) _ _ _ (c .before .before .before .before .put-string .ensures)
 
 returns-5 : tie.Need-returns-5
 returns-5 c = λ at s f. wrote-orig _ _ _ _ _ _ _ _ (c .before .before .before .before .before .before .pre) at s f (c .enum-told5 .given .1)

@@ -7,7 +7,9 @@ use Rattle.stored.proofs.store.Statement.{statement}
 use Rattle.stored.proofs.store.Tie as tie
 
 store-object-requires : tie.Need-store-object-requires
-store-object-requires c κs = (checked-valid _ (c .before .before .before .check-object .ensures) (c .before .enum-told .given .1), zeros-still _ (length (c .before .before .before .before .before .before .before .before .before .before .before .before .before .before .before .args .bytes .now)) (c .before .before .before .before .before .before .zero-u8 .ensures))
+store-object-requires c κs =
+    let at-zero-u8 = c .before .before .before .before .before .before in
+    (checked-valid _ (c .before .before .before .check-object .ensures) (c .before .enum-told .given .1), zeros-still _ (length (at-zero-u8 .before .before .before .before .before .before .before .before .before .args .bytes .now)) (at-zero-u8 .zero-u8 .ensures))
 
 returns : tie.Need-returns
 returns c = writes-object _ _ _ _ (c .before .before .before .before .before .before .check-object .ensures) _ _ _ _ (c .before .before .before .before .enum-told .given .1) (c .before .before .before .before .before .before .before .before .before .zero-u8 .ensures) (c .before .before .store-object .ensures)

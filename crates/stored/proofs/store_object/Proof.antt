@@ -19,15 +19,24 @@ put-labels-requires c κs = let v = c .before .before .before .before .before .b
     (v .labels, room)
 
 put-relocations-requires : tie.Need-put-relocations-requires
-put-relocations-requires c κs = let v = c .before .before .before .before .before .before .before .before .before .before .before .before .before .before .before .before .before .before .pre .0 in
-    let room = third-fits _ _ v _ (c .before .before .before .before .before .before .before .before .before .before .stored-size .ensures) _ _ _ _ _ (c .before .before .before .before .before .before .before .before .before .if1 .left) (c .before .before .before .before .before .before .before .put-blocks .ensures) (c .before .before .before .put-labels .ensures) in
+put-relocations-requires c κs =
+    let at-stored-size = c .before .before .before .before .before .before .before .before .before .before in
+    let v = at-stored-size .before .before .before .before .before .before .before .before .pre .0 in
+    let room = third-fits _ _ v _ (at-stored-size .stored-size .ensures) _ _ _ _ _ (c .before .before .before .before .before .before .before .before .before .if1 .left) (c .before .before .before .before .before .before .before .put-blocks .ensures) (c .before .before .before .put-labels .ensures) in
     (relocs-low _ _ v, (relocs-named _ _ v, room))
 
 put-end-requires : tie.Need-put-end-requires
-put-end-requires c κs = end-fits _ _ (c .before .before .before .before .before .before .before .before .before .before .before .before .before .before .before .before .before .before .before .before .before .before .pre .0) _ (c .before .before .before .before .before .before .before .before .before .before .before .before .before .before .stored-size .ensures) _ _ _ _ _ _ _ (c .before .before .before .before .before .before .before .before .before .before .before .before .before .if1 .left) (c .before .before .before .before .before .before .before .before .before .before .before .put-blocks .ensures) (c .before .before .before .before .before .before .before .put-labels .ensures) (c .before .before .before .put-relocations .ensures)
+put-end-requires c κs =
+    let at-put-labels = c .before .before .before .before .before .before .before in
+    let at-stored-size = at-put-labels .before .before .before .before .before .before .before in
+    end-fits _ _ (at-stored-size .before .before .before .before .before .before .before .before .pre .0) _ (at-stored-size .stored-size .ensures) _ _ _ _ _ _ _ (at-put-labels .before .before .before .before .before .before .if1 .left) (at-put-labels .before .before .before .before .put-blocks .ensures) (at-put-labels .put-labels .ensures) (c .before .before .before .put-relocations .ensures)
 
 returns-2 : tie.Need-returns-2
-returns-2 c = all-written _ _ (c .before .before .before .before .before .before .before .before .before .before .before .before .before .before .before .before .before .before .before .before .before .before .before .before .before .pre .0) _ (c .before .before .before .before .before .before .before .before .before .before .before .before .before .before .before .before .before .stored-size .ensures) _ _ _ _ _ _ _ _ _ (c .before .before .before .before .before .before .before .before .before .before .before .before .before .before .before .before .before .before .before .before .before .before .before .before .before .pre .1) (c .before .before .before .before .before .before .before .before .before .before .before .before .before .before .before .before .if1 .left) (c .before .before .before .before .before .before .before .before .before .before .before .before .before .before .put-blocks .ensures) (c .before .before .before .before .before .before .before .before .before .before .put-labels .ensures) (c .before .before .before .before .before .before .put-relocations .ensures) (c .before .before .put-end .ensures)
+returns-2 c =
+    let at-put-labels = c .before .before .before .before .before .before .before .before .before .before in
+    let at-stored-size = at-put-labels .before .before .before .before .before .before .before in
+    let start = at-stored-size .before .before .before .before .before .before .before .before in
+    all-written _ _ (start .pre .0) _ (at-stored-size .stored-size .ensures) _ _ _ _ _ _ _ _ _ (start .pre .1) (at-put-labels .before .before .before .before .before .before .if1 .left) (at-put-labels .before .before .before .before .put-blocks .ensures) (at-put-labels .put-labels .ensures) (c .before .before .before .before .before .before .put-relocations .ensures) (c .before .before .put-end .ensures)
 
 pub store-object-spec : {M : Type 1} → statement M
 store-object-spec =

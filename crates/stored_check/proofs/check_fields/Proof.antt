@@ -20,10 +20,14 @@ label-run-requires : tie.Need-label-run-requires Inv-loop μ-loop
 label-run-requires c κs = turned-more _ _ _ _ _ (c .before .before .before .before .before .before .before .before .loop .inv) _ (c .before .before .before .before .before .before .step .ensures .0) (c .before .before .before .before .before .before .step .ensures .1) _ (c .before .before .next .given .1) .going
 
 loop-less : tie.Need-loop-less Inv-loop μ-loop
-loop-less c = turned-less _ _ _ _ _ (c .before .before .before .before .before .before .before .before .before .before .before .loop .inv) _ (c .before .before .before .before .before .before .before .before .before .step .ensures .0) (c .before .before .before .before .before .before .before .before .before .step .ensures .1) _ (c .before .before .before .before .before .next .given .1) (c .before .before .label-run .ensures)
+loop-less c =
+    let at-step = c .before .before .before .before .before .before .before .before .before in
+    turned-less _ _ _ _ _ (at-step .before .before .loop .inv) _ (at-step .step .ensures .0) (at-step .step .ensures .1) _ (c .before .before .before .before .before .next .given .1) (c .before .before .label-run .ensures)
 
 loop-again : tie.Need-loop-again Inv-loop μ-loop
-loop-again c = turned-run _ _ _ _ _ (c .before .before .before .before .before .before .before .before .before .before .before .loop .inv) _ (c .before .before .before .before .before .before .before .before .before .step .ensures .0) (c .before .before .before .before .before .before .before .before .before .step .ensures .1) _ (c .before .before .before .before .before .next .given .1) (c .before .before .label-run .ensures)
+loop-again c =
+    let at-step = c .before .before .before .before .before .before .before .before .before in
+    turned-run _ _ _ _ _ (at-step .before .before .loop .inv) _ (at-step .step .ensures .0) (at-step .step .ensures .1) _ (c .before .before .before .before .before .next .given .1) (c .before .before .label-run .ensures)
 
 same-length : tie.Need-same-length Inv-loop μ-loop
 same-length c = c .before .before .before .before .before .before .step .ensures .0 ∙ c .before .before .before .before .before .before .before .before .loop .inv .size

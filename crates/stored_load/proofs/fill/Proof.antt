@@ -20,13 +20,21 @@ loop-holds : tie.Need-loop-holds Inv-loop μ-loop
 loop-holds c = filling-none (c .before .before .before .before .before .before .before .before .before .pre) (λ i. omega (arith, c .before .before .before .before .before .before .before .before .shared-slice-known .given i)) (c .begin .ensures)
 
 put-fitting-requires : tie.Need-put-fitting-requires Inv-loop μ-loop
-put-fitting-requires c κs = filling-fits (c .before .before .before .before .before .before .before .before .before .before .before .before .before .loop .inv) _ _ (c .before .before .before .before .before .before .before .before .before .before .before .step .ensures) (c .before .before .before .before .before .before .before .next .given .1)
+put-fitting-requires c κs =
+    let at-next = c .before .before .before .before .before .before .before in
+    filling-fits (at-next .before .before .before .before .before .before .loop .inv) _ _ (at-next .before .before .before .before .step .ensures) (at-next .next .given .1)
 
 put-run-requires : tie.Need-put-run-requires Inv-loop μ-loop
-put-run-requires c κs = (filling-next (c .before .before .before .before .before .before .before .before .before .before .before .before .before .before .before .before .before .before .before .before .before .before .before .before .before .before .before .before .before .loop .inv) _ _ (c .before .before .before .before .before .before .before .before .before .before .before .before .before .before .before .before .before .before .before .before .before .before .before .before .before .before .before .step .ensures) (c .before .before .before .before .before .before .before .before .before .before .before .before .before .before .before .before .before .before .before .before .before .before .before .next .given .1), filling-roomy (c .before .before .before .before .before .before .before .before .before .before .before .before .before .before .before .before .before .before .before .before .before .before .before .before .before .before .before .before .before .loop .inv) (search needs) (search needs))
+put-run-requires c κs =
+    let at-next = c .before .before .before .before .before .before .before .before .before .before .before .before .before .before .before .before .before .before .before .before .before .before .before in
+    let at-loop = at-next .before .before .before .before .before .before in
+    (filling-next (at-loop .loop .inv) _ _ (at-next .before .before .before .before .step .ensures) (at-next .next .given .1), filling-roomy (at-loop .loop .inv) (search needs) (search needs))
 
 loop-less : tie.Need-loop-less Inv-loop μ-loop
-loop-less c = filling-less (c .before .before .before .before .before .before .before .before .before .before .before .before .before .before .before .before .before .before .before .before .before .before .before .before .before .before .before .before .before .before .before .before .before .before .before .before .loop .inv) _ _ (c .before .before .before .before .before .before .before .before .before .before .before .before .before .before .before .before .before .before .before .before .before .before .before .before .before .before .before .before .before .before .before .before .before .before .step .ensures) (c .before .before .before .before .before .before .before .before .before .before .before .before .before .before .before .before .before .before .before .before .before .before .before .before .before .before .before .before .before .before .next .given .1) _ (c .before .before .before .before .before .before .put-run .ensures .further)
+loop-less c =
+    let at-put-run = c .before .before .before .before .before .before in
+    let at-next = at-put-run .before .before .before .before .before .before .before .before .before .before .before .before .before .before .before .before .before .before .before .before .before .before .before .before in
+    filling-less (at-next .before .before .before .before .before .before .loop .inv) _ _ (at-next .before .before .before .before .step .ensures) (at-next .next .given .1) _ (at-put-run .put-run .ensures .further)
 
 loop-again : tie.Need-loop-again Inv-loop μ-loop
 loop-again c = filling-both (c .before .before .before .before .before .before .before .before .before .before .before .before .before .before .before .before .before .before .before .before .before .before .before .before .before .before .before .before .before .before .before .before .before .before .before .before .loop .inv) _ _ (c .before .before .before .before .before .before .before .before .before .before .before .before .before .before .before .before .before .before .before .before .before .before .before .before .before .before .before .before .before .before .before .before .before .before .step .ensures) (c .before .before .before .before .before .before .before .before .before .before .before .before .before .before .before .before .before .before .before .before .before .before .before .before .before .before .before .before .before .before .next .given .1) (c .before .before .before .before .before .before .before .before .before .before .before .before .before .before .before .before .before .before .before .before .before .before .put-fitting .ensures) (search needs) (search needs) (search needs) (search needs) (search needs) (search needs) (c .before .before .before .before .before .before .put-run .ensures) (search needs) (search needs)

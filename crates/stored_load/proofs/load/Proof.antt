@@ -6,7 +6,9 @@ use Rattle.stored_load.proofs.load.Statement.{statement}
 use Rattle.stored_load.proofs.load.Tie as tie
 
 returns : tie.Need-returns
-returns c = too-short _ (sym (c .before .before .before .before .before .before .before .before .before .before .before .before .before .before .before .before .before .before .before .before .is-short .ensures) ∙ c .before .before .before .before .before .before .before .before .before .before .before .before .before .before .before .before .before .before .before .if1 .taken) (c .before .before .before .before .before .before .before .before .before .before .before .before .refuse .ensures)
+returns c =
+    let at-refuse = c .before .before .before .before .before .before .before .before .before .before .before .before in
+    too-short _ (sym (at-refuse .before .before .before .before .before .before .before .before .is-short .ensures) ∙ at-refuse .before .before .before .before .before .before .before .if1 .taken) (at-refuse .refuse .ensures)
 
 load-fields-requires : tie.Need-load-fields-requires
 load-fields-requires c κs = sym (c .before .before .before .before .before .before .before .is-short .ensures) ∙ c .before .before .before .before .before .before .if1 .left

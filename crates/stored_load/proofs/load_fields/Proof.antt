@@ -5,7 +5,11 @@ use Rattle.stored_load.proofs.load_fields.Statement.{statement}
 use Rattle.stored_load.proofs.load_fields.Tie as tie
 
 returns : tie.Need-returns
-returns c = settled (c .before .before .before .before .before .before .before .before .before .before .before .before .before .before .before .before .before .before .before .before .before .before .before .before .before .before .before .before .before .before .before .before .before .before .before .before .before .before .before .before .before .before .before .before .before .before .before .before .pre) (c .before .before .before .before .before .before .before .before .before .before .before .before .before .before .before .before .before .before .before .before .before .before .before .before .before .before .before .before .before .before .before .before .before .before .before .before .before .before .lent-words .ensures) (c .before .before .before .before .before .before .before .before .before .before .before .before .before .before .before .before .before .before .before .before .before .before .before .before .before .before .before .before .before .before .before .read-fields .ensures) (c .before .before .before .before .before .before .before .before .before .before .before .before .settle .ensures)
+returns c =
+    let at-settle = c .before .before .before .before .before .before .before .before .before .before .before .before in
+    let at-read-fields = at-settle .before .before .before .before .before .before .before .before .before .before .before .before .before .before .before .before .before .before .before in
+    let at-lent-words = at-read-fields .before .before .before .before .before .before .before in
+    settled (at-lent-words .before .before .before .before .before .before .before .before .before .before .pre) (at-lent-words .lent-words .ensures) (at-read-fields .read-fields .ensures) (at-settle .settle .ensures)
 
 pub load-fields-spec : {M : Type 1} → statement M
 load-fields-spec =

@@ -9,7 +9,9 @@ pub put-fitting-spec : {M : Type 1} → statement M
 put-fitting-spec =
     tie.close
     (tie.spec
-    (λ c κs. fitting-met (c .before .before .before .before .before .before .before .before .before .before .before .before .before .before .before .pre) (omega (arith, c .before .before .before .before .before .before .if1 .taken)))
+    (λ c κs.
+    let at-if1 = c .before .before .before .before .before .before in
+    fitting-met (at-if1 .before .before .before .before .before .before .before .before .before .pre) (omega (arith, at-if1 .if1 .taken)))
     (λ c. search needs)
     (λ c. search needs)
     (λ c. search needs)

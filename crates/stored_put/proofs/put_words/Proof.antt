@@ -6,7 +6,9 @@ use Rattle.stored_put.proofs.put_words.Statement.{statement}
 use Rattle.stored_put.proofs.put_words.Tie as tie
 
 returns : tie.Need-returns
-returns c = words-put (c .before .before .before .before .before .before .before .before .before .before .before .before .before .before .before .pre) (c .before .before .before .before .before .before .before .before .before .before .put-turned .ensures) (c .before .before .before .before .before .before .turn .ensures) (c .before .before .put-marks .ensures) (λ i. omega (arith, c .before .before .before .before .before .before .before .before .before .before .before .before .before .before .shared-slice-known .given i))
+returns c =
+    let at-put-turned = c .before .before .before .before .before .before .before .before .before .before in
+    words-put (at-put-turned .before .before .before .before .before .pre) (at-put-turned .put-turned .ensures) (c .before .before .before .before .before .before .turn .ensures) (c .before .before .put-marks .ensures) (λ i. omega (arith, at-put-turned .before .before .before .before .shared-slice-known .given i))
 
 pub put-words-spec : {M : Type 1} → statement M
 put-words-spec =

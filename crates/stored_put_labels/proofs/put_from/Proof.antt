@@ -15,7 +15,9 @@ abbrev μ-loop : tie.MeasureT-loop
 μ-loop bytes places₀ w room labels₀ names₀ at₀ last₀ k₀ named₀ places labels names at last k named = 1024 - k
 
 add-named : tie.Need-add-named Inv-loop μ-loop
-add-named c = omega (arith, running-low (c .before .before .before .before .before .before .before .before .before .before .before .loop .inv .running) (c .before .before .before .before .before .before .before .before .before .label-end .ensures) (c .before .before .before .before .before .before .before .before .if1 .left) (c .name-start .ensures) (c .before .before .before .before .before .before .before .before .before .before .loop-test .taken))
+add-named c =
+    let at-loop-test = c .before .before .before .before .before .before .before .before .before .before in
+    omega (arith, running-low (at-loop-test .before .loop .inv .running) (c .before .before .before .before .before .before .before .before .before .label-end .ensures) (c .before .before .before .before .before .before .before .before .if1 .left) (c .name-start .ensures) (at-loop-test .loop-test .taken))
 
 pub put-from-spec : {M : Type 1} → statement M
 put-from-spec =

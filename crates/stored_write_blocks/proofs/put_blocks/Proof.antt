@@ -27,16 +27,29 @@ part-put-block-end : tie.Need-part-put-block-end Inv-loop μ-loop
 part-put-block-end c = let room = part-words _ _ _ _ _ _ _ (c .before .before .before .before .before .before .before .before .before .before .pre .0) (c .before .before .before .before .before .before .before .before .before .before .pre .1 .0) (c .before .before .before .before .before .before .before .before .before .before .pre .1 .1) _ _ _ _ _ (c .before .before .before .before .before .loop .inv) (c .before .before .before .before .loop-test .taken) (c .before .wide16 .ensures .0) in search needs
 
 part-put-block-start-2 : tie.Need-part-put-block-start-2 Inv-loop μ-loop
-part-put-block-start-2 c = let room = part-marks _ _ _ _ _ _ _ (c .before .before .before .before .before .before .before .before .before .before .before .pre .0) (c .before .before .before .before .before .before .before .before .before .before .before .pre .1 .0) (c .before .before .before .before .before .before .before .before .before .before .before .pre .1 .1) _ _ _ _ _ (c .before .before .before .before .before .before .loop .inv) (c .before .before .before .before .before .loop-test .taken) (c .before .before .wide16 .ensures .0) in search needs
+part-put-block-start-2 c =
+    let at-loop = c .before .before .before .before .before .before in
+    let start = at-loop .before .before .before .before .before in
+    let room = part-marks _ _ _ _ _ _ _ (start .pre .0) (start .pre .1 .0) (start .pre .1 .1) _ _ _ _ _ (at-loop .loop .inv) (c .before .before .before .before .before .loop-test .taken) (c .before .before .wide16 .ensures .0) in search needs
 
 part-put-block-end-2 : tie.Need-part-put-block-end-2 Inv-loop μ-loop
-part-put-block-end-2 c = let room = part-marks _ _ _ _ _ _ _ (c .before .before .before .before .before .before .before .before .before .before .before .pre .0) (c .before .before .before .before .before .before .before .before .before .before .before .pre .1 .0) (c .before .before .before .before .before .before .before .before .before .before .before .pre .1 .1) _ _ _ _ _ (c .before .before .before .before .before .before .loop .inv) (c .before .before .before .before .before .loop-test .taken) (c .before .before .wide16 .ensures .0) in search needs
+part-put-block-end-2 c =
+    let at-loop = c .before .before .before .before .before .before in
+    let start = at-loop .before .before .before .before .before in
+    let room = part-marks _ _ _ _ _ _ _ (start .pre .0) (start .pre .1 .0) (start .pre .1 .1) _ _ _ _ _ (at-loop .loop .inv) (c .before .before .before .before .before .loop-test .taken) (c .before .before .wide16 .ensures .0) in search needs
 
 put-block-requires : tie.Need-put-block-requires Inv-loop μ-loop
-put-block-requires c κs = (part-ready _ _ _ _ _ _ _ (c .before .before .before .before .before .before .before .before .before .before .before .before .pre .0) (c .before .before .before .before .before .before .before .before .before .before .before .before .pre .1 .0) (c .before .before .before .before .before .before .before .before .before .before .before .before .pre .1 .1) _ _ _ _ _ (c .before .before .before .before .before .before .before .loop .inv) (c .before .before .before .before .before .before .loop-test .taken) (c .before .before .before .wide16 .ensures .0), part-fits _ _ _ _ _ _ _ (c .before .before .before .before .before .before .before .before .before .before .before .before .pre .0) (c .before .before .before .before .before .before .before .before .before .before .before .before .pre .1 .0) (c .before .before .before .before .before .before .before .before .before .before .before .before .pre .1 .1) _ _ _ _ _ (c .before .before .before .before .before .before .before .loop .inv) (c .before .before .before .before .before .before .loop-test .taken) (c .before .before .before .wide16 .ensures .0))
+put-block-requires c κs =
+    let at-loop-test = c .before .before .before .before .before .before in
+    let at-loop = at-loop-test .before in
+    let start = at-loop .before .before .before .before .before in
+    (part-ready _ _ _ _ _ _ _ (start .pre .0) (start .pre .1 .0) (start .pre .1 .1) _ _ _ _ _ (at-loop .loop .inv) (at-loop-test .loop-test .taken) (c .before .before .before .wide16 .ensures .0), part-fits _ _ _ _ _ _ _ (start .pre .0) (start .pre .1 .0) (start .pre .1 .1) _ _ _ _ _ (at-loop .loop .inv) (at-loop-test .loop-test .taken) (c .before .before .before .wide16 .ensures .0))
 
 loop-again : tie.Need-loop-again Inv-loop μ-loop
-loop-again c = part-more _ _ _ _ _ _ _ (c .before .before .before .before .before .before .before .before .before .before .before .before .before .before .before .pre .0) (c .before .before .before .before .before .before .before .before .before .before .before .before .before .before .before .pre .1 .0) (c .before .before .before .before .before .before .before .before .before .before .before .before .before .before .before .pre .1 .1) _ _ _ _ _ (c .before .before .before .before .before .before .before .before .before .before .loop .inv) (c .before .before .before .before .before .before .before .before .before .loop-test .taken) (c .before .before .before .before .before .before .wide16 .ensures .0) _ _ (c .before .before .put-block .ensures)
+loop-again c =
+    let at-loop = c .before .before .before .before .before .before .before .before .before .before in
+    let start = at-loop .before .before .before .before .before in
+    part-more _ _ _ _ _ _ _ (start .pre .0) (start .pre .1 .0) (start .pre .1 .1) _ _ _ _ _ (at-loop .loop .inv) (c .before .before .before .before .before .before .before .before .before .loop-test .taken) (c .before .before .before .before .before .before .wide16 .ensures .0) _ _ (c .before .before .put-block .ensures)
 
 returns : tie.Need-returns Inv-loop μ-loop
 returns c = search (needs, blocked-all)

@@ -19,4 +19,7 @@ write-source-spec =
     (λ c κs. search needs)
     (λ c κs. search needs)
     (λ c. search needs)
-    (λ c. source-wrote _ _ (c .before .before .before .before .before .before .before .before .before .before .before .before .before .before .before .before .before .before .part-at .result) (c .before .before .before .before .before .before .before .before .before .before .before .before .before .before .before .before .before .part-at2 .result) (c .before .before .before .before .before .before .before .before .before .before .before .before .before .before .before .before .decimal .result) (c .before .before .before .before .before .before .before .before .before .before .before .before .before .before .before .part-at3 .result) (c .before .before .before .before .before .before .before .before .before .before .before .before .before .before .before .before .before .before .part-at .ensures) (c .before .before .before .before .before .before .before .before .before .before .before .before .before .before .before .before .before .part-at2 .ensures) (c .before .before .before .before .before .before .before .before .before .before .before .before .before .before .before .before .decimal .ensures) (c .before .before .before .before .before .before .before .before .before .before .before .before .before .before .before .part-at3 .ensures) (c .before .before .before .before .before .before .before .before .before .before .before .before .before .before .digits-of .ensures) (c .before .before .before .before .before .before .before .before .before .digits-of2 .ensures) (c .before .before .before .before .digits-of3 .ensures) (c .before .before .before .before .before .before .before .before .before .before .before .before .unhex .ensures) (c .before .before .before .before .before .before .before .repeat-hex .ensures) (c .before .before .unhex2 .ensures)))
+    (λ c.
+    let at-digits-of2 = c .before .before .before .before .before .before .before .before .before in
+    let at-part-at3 = at-digits-of2 .before .before .before .before .before .before in
+    source-wrote _ _ (at-part-at3 .before .before .before .part-at .result) (at-part-at3 .before .before .part-at2 .result) (at-part-at3 .before .decimal .result) (at-part-at3 .part-at3 .result) (at-part-at3 .before .before .before .part-at .ensures) (at-part-at3 .before .before .part-at2 .ensures) (at-part-at3 .before .decimal .ensures) (at-part-at3 .part-at3 .ensures) (at-digits-of2 .before .before .before .before .before .digits-of .ensures) (at-digits-of2 .digits-of2 .ensures) (c .before .before .before .before .digits-of3 .ensures) (at-digits-of2 .before .before .before .unhex .ensures) (c .before .before .before .before .before .before .before .repeat-hex .ensures) (c .before .before .unhex2 .ensures)))

@@ -14,7 +14,9 @@ put-distance-spec =
     (λ c. search needs)
     (λ c κs. search needs)
     (λ c. search needs)
-    (λ c. distance-after _ (c .before .before .before .before .before .before .before .before .before .before .before .if1 .taken) (c .before .before .before .before .before .before .before .before .before .long32 .ensures) (c .before .before .before .before .before .before .before .put-count .ensures) (c .before .before .put .ensures))
+    (λ c.
+    let at-long32 = c .before .before .before .before .before .before .before .before .before in
+    distance-after _ (at-long32 .before .before .if1 .taken) (at-long32 .long32 .ensures) (c .before .before .before .before .before .before .before .put-count .ensures) (c .before .before .put .ensures))
     (λ c. search needs)
     (λ c κs. search needs)
     (λ c. search needs)
@@ -22,4 +24,6 @@ put-distance-spec =
     (λ c. search needs)
     (λ c κs. search needs)
     (λ c. search needs)
-    (λ c. distance-before _ (c .before .before .before .before .before .before .before .before .before .before .before .if1 .left) (c .before .before .before .before .before .before .before .before .before .long322 .ensures) (c .before .before .before .before .before .before .before .put-count2 .ensures) (c .before .before .put2 .ensures)))
+    (λ c.
+    let at-long322 = c .before .before .before .before .before .before .before .before .before in
+    distance-before _ (at-long322 .before .before .if1 .left) (at-long322 .long322 .ensures) (c .before .before .before .before .before .before .before .put-count2 .ensures) (c .before .before .put2 .ensures)))

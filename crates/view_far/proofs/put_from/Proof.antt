@@ -14,5 +14,7 @@ put-from-spec =
     (λ c κs. search needs)
     (λ c. search needs)
     (λ c. search needs)
-    (λ c. to-there _ (c .before .before .before .before .before .before .before .before .before .before .before .args .st) (c .before .before .before .before .before .before .before .before .before .before .before .pre .0) _ (c .before .before .before .before .before .before .before .before .where-is .ensures) _ _ _ (c .before .before .before .before .before .before .label .given .1) (c .before .before .before .offset-from .ensures .0) (c .before .before .put-line .ensures))
+    (λ c.
+    let at-where-is = c .before .before .before .before .before .before .before .before in
+    to-there _ (at-where-is .before .before .before .args .st) (at-where-is .before .before .before .pre .0) _ (at-where-is .where-is .ensures) _ _ _ (c .before .before .before .before .before .before .label .given .1) (c .before .before .before .offset-from .ensures .0) (c .before .before .put-line .ensures))
     (λ c. to-none _ (c .before .before .before .before .before .args .st) (c .before .before .before .before .before .pre .0) _ (c .before .before .where-is .ensures) _ _ _ (c .enum-told .given .1)))

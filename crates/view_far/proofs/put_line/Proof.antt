@@ -20,4 +20,8 @@ put-line-spec =
     (λ c κs. search needs)
     (λ c κs. search needs)
     (λ c. search needs)
-    (λ c. line-put _ (c .before .before .before .before .before .before .before .before .before .before .before .before .before .before .before .before .before .before .before .before .before .before .before .before .before .before .before .before .before .before .before .before .before .before .args .st) _ (c .before .before .before .before .before .before .before .before .before .before .before .before .before .before .before .before .before .before .before .before .before .before .before .before .before .label-text .ensures) (c .before .before .before .before .before .before .before .before .before .before .before .before .before .before .before .before .before .before .before .before .before .before .before .before .before .before .before .before .before .put .ensures) (c .before .before .before .before .before .before .before .before .before .before .before .before .before .before .before .before .before .before .before .before .before .before .before .before .put2 .ensures) (c .before .before .before .before .before .before .before .before .before .before .before .before .before .before .before .before .before .before .before .put3 .ensures) (c .before .before .before .before .before .before .before .before .before .before .before .before .before .before .before .put-distance .ensures) (c .before .before .before .before .before .before .before .before .before .before .put4 .ensures) (c .before .before .before .before .before .before .put-reach .ensures) (c .before .before .put-byte .ensures)))
+    (λ c.
+    let at-put4 = c .before .before .before .before .before .before .before .before .before .before in
+    let at-put3 = at-put4 .before .before .before .before .before .before .before .before .before in
+    let at-put = at-put3 .before .before .before .before .before .before .before .before .before .before in
+    line-put _ (at-put .before .before .before .before .before .args .st) _ (at-put3 .before .before .before .before .before .before .label-text .ensures) (at-put .put .ensures) (at-put3 .before .before .before .before .before .put2 .ensures) (at-put3 .put3 .ensures) (at-put4 .before .before .before .before .before .put-distance .ensures) (at-put4 .put4 .ensures) (c .before .before .before .before .before .before .put-reach .ensures) (c .before .before .put-byte .ensures)))

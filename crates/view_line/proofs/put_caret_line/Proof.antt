@@ -19,4 +19,6 @@ put-caret-line-spec =
     (λ c κs. search needs)
     (λ c κs. search needs)
     (λ c. search needs)
-    (λ c. caret-line-put _ _ _ _ _ (c .before .before .before .before .before .before .before .before .before .before .before .before .before .before .before .before .before .before .before .before .put .ensures) (c .before .before .before .before .before .before .before .before .before .before .before .before .before .before .before .put-between .ensures) (c .before .before .before .before .before .before .before .before .before .before .put-under .ensures) (c .before .before .before .before .before .before .put-carets .ensures) (c .before .before .put-byte .ensures)))
+    (λ c.
+    let at-put-under = c .before .before .before .before .before .before .before .before .before .before in
+    caret-line-put _ _ _ _ _ (at-put-under .before .before .before .before .before .before .before .before .before .before .put .ensures) (at-put-under .before .before .before .before .before .put-between .ensures) (at-put-under .put-under .ensures) (c .before .before .before .before .before .before .put-carets .ensures) (c .before .before .put-byte .ensures)))

@@ -20,4 +20,7 @@ put-line-spec =
     (λ c κs. search needs)
     (λ c κs. search needs)
     (λ c. search needs)
-    (λ c. line-put _ _ _ _ _ (c .before .before .before .before .before .before .before .before .before .before .before .before .before .before .before .before .before .before .before .before .before .put .ensures) (c .before .before .before .before .before .before .before .before .before .before .before .before .before .before .before .before .put-between .ensures) (c .before .before .before .before .before .before .before .before .before .before .before .put-shown .ensures) (c .before .before .before .before .before .before .put-between2 .ensures) (c .before .before .put-byte .ensures)))
+    (λ c.
+    let at-put-between2 = c .before .before .before .before .before .before in
+    let at-put-between = at-put-between2 .before .before .before .before .before .before .before .before .before .before in
+    line-put _ _ _ _ _ (at-put-between .before .before .before .before .before .put .ensures) (at-put-between .put-between .ensures) (at-put-between2 .before .before .before .before .before .put-shown .ensures) (at-put-between2 .put-between2 .ensures) (c .before .before .put-byte .ensures)))

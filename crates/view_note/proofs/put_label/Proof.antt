@@ -17,4 +17,6 @@ put-label-spec =
     (λ c. search needs)
     (λ c κs. search needs)
     (λ c. search needs)
-    (λ c. label-some _ _ _ (c .before .before .before .before .before .before .before .before .before .before .before .before .before .before .before .before .before .label-before .ensures) _ (c .before .before .before .before .before .before .before .before .before .before .before .before .before .before .before .if1 .left) (c .before .before .before .before .before .before .before .before .label-text .ensures) (c .before .before .before .before .before .before .before .before .before .before .before .before .put .ensures) (c .before .before .before .before .before .before .before .put2 .ensures) (c .before .before .put3 .ensures)))
+    (λ c.
+    let at-label-text = c .before .before .before .before .before .before .before .before in
+    label-some _ _ _ (at-label-text .before .before .before .before .before .before .before .before .before .label-before .ensures) _ (at-label-text .before .before .before .before .before .before .before .if1 .left) (at-label-text .label-text .ensures) (at-label-text .before .before .before .before .put .ensures) (c .before .before .before .before .before .before .before .put2 .ensures) (c .before .before .put3 .ensures)))

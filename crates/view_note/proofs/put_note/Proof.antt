@@ -17,5 +17,7 @@ put-note-spec =
     (λ c κs. search needs)
     (λ c κs. search needs)
     (λ c. search needs)
-    (λ c. note-put _ _ _ (c .before .before .before .before .before .before .before .before .before .before .before .before .before .before .before .if1 .left) (c .before .before .before .before .before .before .before .before .before .before .before .before .before .before .has-note .ensures) (c .before .before .before .before .before .before .before .before .before .before .before .before .before .if2 .taken) (c .before .before .before .before .before .before .before .before .before .before .put .ensures) (c .before .before .before .before .before .before .put-said .ensures) (c .before .before .put-byte .ensures))
+    (λ c.
+    let at-put = c .before .before .before .before .before .before .before .before .before .before in
+    note-put _ _ _ (at-put .before .before .before .before .before .if1 .left) (at-put .before .before .before .before .has-note .ensures) (at-put .before .before .before .if2 .taken) (at-put .put .ensures) (c .before .before .before .before .before .before .put-said .ensures) (c .before .before .put-byte .ensures))
     (λ c. note-none _ _ _ (c .before .before .if1 .left) (c .before .has-note .ensures) _ _ (c .if2 .left)))

@@ -17,5 +17,7 @@ put-number-spec =
     (λ c κs. search needs)
     (λ c κs. search needs)
     (λ c. search needs)
-    (λ c. negative-put _ _ _ (c .before .before .before .before .before .before .before .before .before .before .before .before .before .next-lexeme .ensures) (c .before .before .before .before .before .before .before .before .before .if2 .taken) (c .before .before .before .long162 .ensures) (c .before .before .before .before .before .before .before .put-byte .ensures) (c .before .before .put-decimal2 .ensures))
+    (λ c.
+    let at-if2 = c .before .before .before .before .before .before .before .before .before in
+    negative-put _ _ _ (at-if2 .before .before .before .before .next-lexeme .ensures) (at-if2 .if2 .taken) (c .before .before .before .long162 .ensures) (c .before .before .before .before .before .before .before .put-byte .ensures) (c .before .before .put-decimal2 .ensures))
     (λ c. number-none _ _ _ (c .before .before .before .before .next-lexeme .ensures) _ _ (c .before .before .if1 .left) (c .if2 .left)))

@@ -25,7 +25,9 @@ put-said-spec =
     (λ c. search needs)
     (λ c κs. search needs)
     (λ c. search needs)
-    (λ c. said-statement _ _ _ _ (c .before .before .before .before .before .before .before .before .before .before .before .due-at .ensures) (c .before .before .before .before .before .before .before .before .before .enum-told .given .1) (c .before .before .before .before .before .before .put .ensures) (c .before .before .put-label .ensures))
+    (λ c.
+    let at-enum-told = c .before .before .before .before .before .before .before .before .before in
+    said-statement _ _ _ _ (at-enum-told .before .before .due-at .ensures) (at-enum-told .enum-told .given .1) (c .before .before .before .before .before .before .put .ensures) (c .before .before .put-label .ensures))
     (λ c. search needs)
     (λ c. said-directive _ _ _ _ (c .before .before .before .before .before .before .before .due-at .ensures) (c .before .before .before .before .before .enum-told2 .given .1) (c .before .before .put2 .ensures))
     (λ c. search needs)

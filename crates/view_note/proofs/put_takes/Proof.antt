@@ -17,4 +17,7 @@ put-takes-spec =
     (λ c. search needs)
     (λ c κs. search needs)
     (λ c. search needs)
-    (λ c. takes-put _ _ _ (c .before .before .before .before .before .before .before .before .before .before .before .before .before .before .before .before .before .before .before .before .put .ensures) (c .before .before .before .before .before .before .before .before .before .before .before .before .before .before .before .before .put-field .ensures) (c .before .before .before .before .before .before .before .before .before .before .before .put2 .ensures) (c .before .before .before .before .before .before .before .put-number .ensures) (c .before .before .put3 .ensures)))
+    (λ c.
+    let at-put-number = c .before .before .before .before .before .before .before in
+    let at-put-field = at-put-number .before .before .before .before .before .before .before .before .before in
+    takes-put _ _ _ (at-put-field .before .before .before .before .put .ensures) (at-put-field .put-field .ensures) (at-put-number .before .before .before .before .put2 .ensures) (at-put-number .put-number .ensures) (c .before .before .put3 .ensures)))

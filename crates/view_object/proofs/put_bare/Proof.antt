@@ -16,4 +16,7 @@ put-bare-spec =
     (λ c. search needs)
     (λ c κs. search needs)
     (λ c. search needs)
-    (λ c. bare-put _ _ (c .before .before .before .before .before .before .before .before .before .before .before .before .before .before .before .before .before .before .before .put .ensures) (c .before .before .before .before .before .before .before .before .before .before .before .before .before .before .before .put-hex .ensures) (c .before .before .before .before .before .before .before .before .before .before .before .put-byte .ensures) (c .before .before .before .before .before .before .before .put2 .ensures) (c .before .before .put3 .ensures)))
+    (λ c.
+    let at-put2 = c .before .before .before .before .before .before .before in
+    let at-put-hex = at-put2 .before .before .before .before .before .before .before .before in
+    bare-put _ _ (at-put-hex .before .before .before .before .put .ensures) (at-put-hex .put-hex .ensures) (at-put2 .before .before .before .before .put-byte .ensures) (at-put2 .put2 .ensures) (c .before .before .put3 .ensures)))

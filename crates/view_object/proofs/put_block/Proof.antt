@@ -22,4 +22,7 @@ put-block-spec =
     (λ c. search needs)
     (λ c κs. search needs)
     (λ c. search needs)
-    (λ c. block-put _ _ _ _ (c .before .before .before .before .before .before .before .before .before .before .before .before .before .before .before .last-address .ensures) (c .before .before .before .before .before .wide16 .ensures .0) (c .before .before .before .before .before .before .before .before .before .before .before .before .before .before .before .before .before .before .before .before .before .before .before .before .before .before .before .before .put .ensures) (c .before .before .before .before .before .before .before .before .before .before .before .before .before .before .before .before .before .before .before .before .before .before .before .before .put-hex .ensures) (c .before .before .before .before .before .before .before .before .before .before .before .before .before .before .before .before .before .before .before .put2 .ensures) (c .before .before .before .before .before .before .before .before .before .before .before .before .before .before .put-hex2 .ensures) (c .before .before .before .before .before .before .before .before .before .put3 .ensures) (c .before .before .put-counted .ensures)))
+    (λ c.
+    let at-put3 = c .before .before .before .before .before .before .before .before .before in
+    let at-put2 = at-put3 .before .before .before .before .before .before .before .before .before .before in
+    block-put _ _ _ _ (at-put3 .before .before .before .before .before .before .last-address .ensures) (c .before .before .before .before .before .wide16 .ensures .0) (at-put2 .before .before .before .before .before .before .before .before .before .put .ensures) (at-put2 .before .before .before .before .before .put-hex .ensures) (at-put2 .put2 .ensures) (at-put3 .before .before .before .before .before .put-hex2 .ensures) (at-put3 .put3 .ensures) (c .before .before .put-counted .ensures)))

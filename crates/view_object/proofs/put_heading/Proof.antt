@@ -23,4 +23,8 @@ put-heading-spec =
     (λ c. search needs)
     (λ c κs. search needs)
     (λ c. search needs)
-    (λ c. heading-put _ (c .before .before .before .before .before .before .before .before .before .before .before .before .before .before .before .before .before .before .before .before .before .before .before .before .before .before .put .ensures) (c .before .before .before .before .before .before .before .before .before .before .before .before .before .before .before .before .before .before .before .before .put-counted .ensures) (c .before .before .before .before .before .before .before .before .before .before .before .before .before .before .put-counted2 .ensures) (c .before .before .before .before .before .before .before .before .put-counted3 .ensures) (c .before .before .put-counted4 .ensures)))
+    (λ c.
+    let at-put-counted3 = c .before .before .before .before .before .before .before .before in
+    let at-put-counted2 = at-put-counted3 .before .before .before .before .before .before in
+    let at-put-counted = at-put-counted2 .before .before .before .before .before .before in
+    heading-put _ (at-put-counted .before .before .before .before .before .before .put .ensures) (at-put-counted .put-counted .ensures) (at-put-counted2 .put-counted2 .ensures) (at-put-counted3 .put-counted3 .ensures) (c .before .before .put-counted4 .ensures)))

@@ -13,4 +13,6 @@ put-heading-spec =
     (λ c κs. search needs)
     (λ c κs. search needs)
     (λ c. search needs)
-    (λ c. heading-put _ _ _ _ (c .before .before .before .before .before .before .before .before .before .before .before .before .before .before .put-position .ensures) (c .before .before .before .before .before .before .before .before .before .before .put-title .ensures) (c .before .before .before .before .before .before .put-end .ensures) (c .before .before .put-byte .ensures)))
+    (λ c.
+    let at-put-title = c .before .before .before .before .before .before .before .before .before .before in
+    heading-put _ _ _ _ (at-put-title .before .before .before .before .put-position .ensures) (at-put-title .put-title .ensures) (c .before .before .before .before .before .before .put-end .ensures) (c .before .before .put-byte .ensures)))

@@ -13,4 +13,6 @@ put-placed-spec =
     (λ c κs. search needs)
     (λ c κs. search needs)
     (λ c. search needs)
-    (λ c. placed-put _ _ _ _ _ _ _ (c .before .before .before .before .before .before .before .before .before .before .before .before .before .before .put-heading .ensures) (c .before .before .before .before .before .before .before .before .before .before .put-underlined .ensures) (c .before .before .before .before .before .before .put-note .ensures) (c .before .before .put-second .ensures)))
+    (λ c.
+    let at-put-underlined = c .before .before .before .before .before .before .before .before .before .before in
+    placed-put _ _ _ _ _ _ _ (at-put-underlined .before .before .before .before .put-heading .ensures) (at-put-underlined .put-underlined .ensures) (c .before .before .before .before .before .before .put-note .ensures) (c .before .before .put-second .ensures)))

@@ -14,4 +14,6 @@ put-placeless-spec =
     (λ c κs. search needs)
     (λ c κs. search needs)
     (λ c. search needs)
-    (λ c. placeless-put _ _ (c .before .before .before .before .before .before .before .before .before .before .before .before .before .before .before .put .ensures) (c .before .before .before .before .before .before .before .before .before .before .put2 .ensures) (c .before .before .before .before .before .before .put-title .ensures) (c .before .before .put-byte .ensures)))
+    (λ c.
+    let at-put2 = c .before .before .before .before .before .before .before .before .before .before in
+    placeless-put _ _ (at-put2 .before .before .before .before .before .put .ensures) (at-put2 .put2 .ensures) (c .before .before .before .before .before .before .put-title .ensures) (c .before .before .put-byte .ensures)))

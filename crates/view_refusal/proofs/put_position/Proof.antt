@@ -29,4 +29,8 @@ put-position-spec =
     (λ c. search needs)
     (λ c κs. search needs)
     (λ c. search needs)
-    (λ c. position-put _ _ _ (c .before .before .before .before .before .before .before .before .before .before .before .before .before .before .before .before .before .before .before .before .before .before .before .before .before .before .before .before .before .line-feeds .ensures) (c .before .before .before .before .before .before .before .before .before .before .before .before .before .before .before .before .before .before .before .before .before .before .before .before .before .before .before .bytes-since .ensures .0) (c .before .before .before .before .before .before .before .before .before .before .before .before .before .before .before .before .before .long .ensures) (c .before .before .before .before .before .before .before .before .long2 .ensures) (c .before .before .before .before .before .before .before .before .before .before .before .before .before .before .before .before .before .before .before .before .before .before .before .before .before .put .ensures) (c .before .before .before .before .before .before .before .before .before .before .before .before .before .before .before .before .before .before .before .before .before .put-byte .ensures) (c .before .before .before .before .before .before .before .before .before .before .before .before .before .before .before .before .put-decimal .ensures) (c .before .before .before .before .before .before .before .before .before .before .before .before .put-byte2 .ensures) (c .before .before .before .before .before .before .before .put-decimal2 .ensures) (c .before .before .put2 .ensures)))
+    (λ c.
+    let at-long2 = c .before .before .before .before .before .before .before .before in
+    let at-long = at-long2 .before .before .before .before .before .before .before .before .before in
+    let at-bytes-since = at-long .before .before .before .before .before .before .before .before .before .before in
+    position-put _ _ _ (at-bytes-since .before .before .line-feeds .ensures) (at-bytes-since .bytes-since .ensures .0) (at-long .long .ensures) (at-long2 .long2 .ensures) (at-long .before .before .before .before .before .before .before .before .put .ensures) (at-long .before .before .before .before .put-byte .ensures) (at-long2 .before .before .before .before .before .before .before .before .put-decimal .ensures) (at-long2 .before .before .before .before .put-byte2 .ensures) (c .before .before .before .before .before .before .before .put-decimal2 .ensures) (c .before .before .put2 .ensures)))

@@ -12,7 +12,11 @@ put-second-spec =
     (λ c κs. (placed-in _ _ _ (c .before .before .is-placed .ensures) (c .before .if1 .taken), placed-taken _ _ _ (c .before .before .is-placed .ensures) (c .before .if1 .taken)))
     (λ c. search needs)
     (λ c κs. search needs)
-    (λ c κs. placed-in _ _ _ (c .before .before .before .before .before .before .before .before .before .before .before .is-placed .ensures) (c .before .before .before .before .before .before .before .before .before .before .if1 .taken))
+    (λ c κs.
+    let at-if1 = c .before .before .before .before .before .before .before .before .before .before in
+    placed-in _ _ _ (at-if1 .before .is-placed .ensures) (at-if1 .if1 .taken))
     (λ c. search needs)
-    (λ c. second-put _ _ _ (c .before .before .before .before .before .before .before .before .before .before .before .before .before .before .is-placed .ensures) _ (c .before .before .before .before .before .before .before .before .before .before .before .before .before .if1 .taken) (c .before .before .before .before .before .before .before .before .before .before .before .put-position .ensures) (c .before .before .before .before .before .before .put .ensures) (c .before .before .put-underlined .ensures))
+    (λ c.
+    let at-put = c .before .before .before .before .before .before in
+    second-put _ _ _ (at-put .before .before .before .before .before .before .before .before .is-placed .ensures) _ (at-put .before .before .before .before .before .before .before .if1 .taken) (at-put .before .before .before .before .before .put-position .ensures) (at-put .put .ensures) (c .before .before .put-underlined .ensures))
     (λ c. second-none _ _ _ (c .before .is-placed .ensures) _ _ _ (c .if1 .left)))

@@ -18,4 +18,7 @@ put-title-spec =
     (λ c κs. search needs)
     (λ c κs. search needs)
     (λ c. search needs)
-    (λ c. title-put _ (c .before .before .before .before .before .before .before .before .before .before .before .before .before .before .before .before .before .before .before .before .long16 .ensures) (c .before .before .before .before .before .before .before .before .before .before .before .before .before .before .before .before .before .before .before .before .before .before .before .before .put .ensures) (c .before .before .before .before .before .before .before .before .before .before .before .before .before .before .before .before .before .before .before .put-decimal .ensures) (c .before .before .before .before .before .before .before .before .before .before .before .before .before .before .before .put-byte .ensures) (c .before .before .before .before .before .before .before .before .before .before .before .put-name .ensures) (c .before .before .before .before .before .before .put2 .ensures) (c .before .before .put-meaning .ensures)))
+    (λ c.
+    let at-put2 = c .before .before .before .before .before .before in
+    let at-put-byte = at-put2 .before .before .before .before .before .before .before .before .before in
+    title-put _ (at-put-byte .before .before .before .before .before .long16 .ensures) (at-put-byte .before .before .before .before .before .before .before .before .before .put .ensures) (at-put-byte .before .before .before .before .put-decimal .ensures) (at-put-byte .put-byte .ensures) (at-put2 .before .before .before .before .before .put-name .ensures) (at-put2 .put2 .ensures) (c .before .before .put-meaning .ensures)))

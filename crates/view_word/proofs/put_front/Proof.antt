@@ -15,4 +15,7 @@ put-front-spec =
     (λ c κs. search needs)
     (λ c κs. search needs)
     (λ c. search needs)
-    (λ c. front-put _ _ _ (c .before .before .before .before .before .before .before .before .before .before .before .before .before .before .before .before .before .before .before .before .before .before .put-hex .ensures) (c .before .before .before .before .before .before .before .before .before .before .before .before .before .before .before .before .before .before .put-spaces .ensures) (c .before .before .before .before .before .before .before .before .before .before .before .before .before .before .put .ensures) (c .before .before .before .before .before .before .before .before .before .before .put-spaces2 .ensures) (c .before .before .before .before .before .before .put2 .ensures) (c .before .before .put-spaces3 .ensures)))
+    (λ c.
+    let at-put-spaces2 = c .before .before .before .before .before .before .before .before .before .before in
+    let at-put-spaces = at-put-spaces2 .before .before .before .before .before .before .before .before in
+    front-put _ _ _ (at-put-spaces .before .before .before .before .put-hex .ensures) (at-put-spaces .put-spaces .ensures) (at-put-spaces2 .before .before .before .before .put .ensures) (at-put-spaces2 .put-spaces2 .ensures) (c .before .before .before .before .before .before .put2 .ensures) (c .before .before .put-spaces3 .ensures)))

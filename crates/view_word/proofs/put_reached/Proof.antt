@@ -15,4 +15,6 @@ put-reached-spec =
     (λ c κs. search needs)
     (λ c κs. search needs)
     (λ c. search needs)
-    (λ c. reached-put _ _ _ _ _ (c .before .before .before .before .before .before .before .before .before .before .before .before .before .before .before .before .put-spaces .ensures) (c .before .before .before .before .before .before .before .before .before .before .before .put .ensures) (c .before .before .before .before .before .before .before .put-hex .ensures) (c .before .before .before .label-row .ensures) (c .before .before .put-behind .ensures)))
+    (λ c.
+    let at-put-hex = c .before .before .before .before .before .before .before in
+    reached-put _ _ _ _ _ (at-put-hex .before .before .before .before .before .before .before .before .before .put-spaces .ensures) (at-put-hex .before .before .before .before .put .ensures) (at-put-hex .put-hex .ensures) (c .before .before .before .label-row .ensures) (c .before .before .put-behind .ensures)))

@@ -18,4 +18,6 @@ put-set-spec =
     (λ c κs. search needs)
     (λ c κs. search needs)
     (λ c. search needs)
-    (λ c. set-put _ _ _ _ _ _ _ _ _ _ (c .before .before .before .before .before .before .before .before .before .before .before .before .before .before .before .before .before .before .hex-text .ensures) (c .before .before .before .before .before .before .before .before .before .before .before .before .before .before .before .name-of .ensures) (c .before .before .before .before .before .before .before .before .before .before .before .before .before .before .before .before .before .before .before .before .disassemble-line .ensures) (c .before .before .before .before .before .before .before .before .before .before .before .before .before .before .before .before .before .before .before .line-reach .ensures) (c .before .before .before .before .before .before .before .before .before .before .before .before .before .before .put-front .ensures) (c .before .before .before .before .before .before .before .before .before .before .put-line .ensures) (c .before .before .before .before .before .before .put-note .ensures) (c .before .before .put-byte .ensures)))
+    (λ c.
+    let at-put-line = c .before .before .before .before .before .before .before .before .before .before in
+    set-put _ _ _ _ _ _ _ _ _ _ (at-put-line .before .before .before .before .before .before .before .before .hex-text .ensures) (at-put-line .before .before .before .before .before .name-of .ensures) (at-put-line .before .before .before .before .before .before .before .before .before .before .disassemble-line .ensures) (at-put-line .before .before .before .before .before .before .before .before .before .line-reach .ensures) (at-put-line .before .before .before .before .put-front .ensures) (at-put-line .put-line .ensures) (c .before .before .before .before .before .before .put-note .ensures) (c .before .before .put-byte .ensures)))

@@ -19,4 +19,7 @@ put-waiting-spec =
     (λ c. search needs)
     (λ c κs. search needs)
     (λ c. search needs)
-    (λ c. waiting-put _ _ _ _ _ _ (c .before .before .before .before .before .before .before .before .before .before .before .before .before .before .before .before .before .before .before .before .before .before .name-of .ensures) (c .before .before .before .before .before .before .before .before .before .before .before .before .name-of2 .ensures) (c .before .before .before .before .before .before .before .before .before .before .before .before .before .before .before .before .before .before .before .before .before .put-front .ensures) (c .before .before .before .before .before .before .before .before .before .before .before .before .before .before .before .before .put .ensures) (c .before .before .before .before .before .before .before .before .before .before .before .put2 .ensures) (c .before .before .before .before .before .before .before .put-spaces .ensures) (c .before .before .put3 .ensures)))
+    (λ c.
+    let at-put-spaces = c .before .before .before .before .before .before .before in
+    let at-put = at-put-spaces .before .before .before .before .before .before .before .before .before in
+    waiting-put _ _ _ _ _ _ (at-put .before .before .before .before .before .before .name-of .ensures) (at-put-spaces .before .before .before .before .before .name-of2 .ensures) (at-put .before .before .before .before .before .put-front .ensures) (at-put .put .ensures) (at-put-spaces .before .before .before .before .put2 .ensures) (at-put-spaces .put-spaces .ensures) (c .before .before .put3 .ensures)))

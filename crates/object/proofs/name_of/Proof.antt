@@ -1,8 +1,8 @@
--- `stored_write_labels::name_of` meets its contract. Assumes nothing.
+-- `object::name_of` meets its contract. Assumes nothing.
 use borrow.Author.Needs.{needs}
-use Rattle.stored_write_labels.proofs.Rows.{name-part}
-use Rattle.stored_write_labels.proofs.name_of.Statement.{statement}
-use Rattle.stored_write_labels.proofs.name_of.Tie as tie
+use Rattle.object.proofs.Parts.{name-whole}
+use Rattle.object.proofs.name_of.Statement.{statement}
+use Rattle.object.proofs.name_of.Tie as tie
 
 pub name-of-spec : {M : Type 1} → statement M
 name-of-spec =
@@ -21,4 +21,4 @@ name-of-spec =
     (λ c. search needs)
     (λ c. search needs)
     (λ c. search needs)
-    (λ c. search (needs, name-part)))
+    (λ c. search (needs, name-whole)))
