@@ -8,6 +8,7 @@ use Rattle.rules.specs.Answers as rule
 use Rattle.rules.specs.Statements.{Stmt, statements}
 use Rattle.rules.specs.Objects.{Object}
 use Rattle.rules.specs.Buffers.{Buffers}
+use Rattle.base_refusals.specs.declared.Refusal.{Refusal}
 use Rattle.pass1_state.specs.declared.Pass1State as code
 use Rattle.pass2_statement.specs.declared.Pass2State.{Pass2State}
 use Rattle.pass2_statement.specs.declared.Pass2Step.{Pass2Step}
@@ -28,5 +29,5 @@ module _ (rs qs src : List ℕ) (o : code.Pass1State) (b : Buffers) (z : Pass2St
   pub went-leaves : (t : Pass2State) → z ≡ Went t → (r : Answer) → r ≡ accepting o t → (ss : List Stmt) → statements src ≡ ok ss → Leaves (afterPass2 ss (seen rs qs src o)) b r x
   went-leaves t e r a ss q = rw a (made-leaves t (afterPass2 ss (seen rs qs src o)) (h .went t e ss q))
 
-  pub stopped-leaves : (n a e c d : ℕ) → z ≡ Refused n a e c d → (r : Answer) → r ≡ refusing n a e c d → (ss : List Stmt) → statements src ≡ ok ss → Leaves (afterPass2 ss (seen rs qs src o)) b r x
-  stopped-leaves n a e c d q r k ss s = rw (h .stopped n a e c d q ss s) (leaves-refused n a e c d b x (h .cleared n a e c d q) r k)
+  pub stopped-leaves : (f : Refusal) → z ≡ Refused f → (r : Answer) → r ≡ refusing (f .number) (f .start) (f .end) (f .start2) (f .end2) → (ss : List Stmt) → statements src ≡ ok ss → Leaves (afterPass2 ss (seen rs qs src o)) b r x
+  stopped-leaves f q r k ss s = rw (h .stopped f q ss s) (leaves-refused _ _ _ _ _ b x (h .cleared f q) r k)

@@ -6,11 +6,13 @@ use Prim.Native.Nat.{ℕ, _≤_}
 use native.Mathlib.Omega.{arith}
 use lib.ListN.{length, length-replicate}
 use borrow.Author.Tests.{le-leb}
-use Rattle.rules.specs.Base.{ok, refuse2, span}
+use Rattle.rules.specs.Base.{ok}
 use Rattle.rules.specs.Statements.{Stmt, statements}
 use Rattle.rules.specs.Buffers.{Buffers, short, lentWords, zeros}
 use Rattle.rules.specs.Passes.{assemble}
 use Rattle.rules.specs.Calls.{ofBytes}
+use Rattle.base_refusals.specs.Refusals.{refusedBy}
+use Rattle.base_refusals.specs.declared.Refusal.{Refusal}
 use Rattle.pass1_state.specs.declared.Pass1State as code
 use Rattle.pass1_state.specs.declared.Pass1Step.{Pass1Step}
 use Rattle.pass1_state.specs.declared.Pass1Step.the-variants.{Went, Refused}
@@ -50,9 +52,9 @@ module _ (b : Buffers) (s rs qs : List ℕ) (small : Bool) (room : ℕ) (i : sma
         let q : called b s ≡ afterPass2 (g .readable .stmts) (seen rs qs s o) = called-is ∙ (calling-long small room s (h .long o e) ∙ with-room room rs qs s o g (h .fits o e)) in
         rw q (l (g .readable .stmts) (g .readable .read))
 
-  pub call-stopped : (n a c d f : ℕ) → z ≡ Refused n a c d f → (r : Answer) (x : Buffers) → Leaves (refuse2 n (span a c) (span d f)) b r x → Assembled b s r x
-  call-stopped n a c d f e r x l =
-      let q : called b s ≡ refuse2 n (span a c) (span d f) = called-is ∙ h .stopped n a c d f e in
+  pub call-stopped : (f : Refusal) → z ≡ Refused f → (r : Answer) (x : Buffers) → Leaves (refusedBy f) b r x → Assembled b s r x
+  call-stopped f e r x l =
+      let q : called b s ≡ refusedBy f = called-is ∙ h .stopped f e in
       rw q l
 
 -- an array of so many zeros holds the table of symbols, and that of relocations

@@ -65,13 +65,7 @@ fn second_half(
     );
     match answer {
         Pass2Step::Went(t) => accepted(o, t),
-        Pass2Step::Refused {
-            number,
-            start,
-            end,
-            start2,
-            end2,
-        } => refusal(number, start, end, start2, end2),
+        Pass2Step::Refused(r) => refusal(r.number, r.start, r.end, r.start2, r.end2),
     }
 }
 
@@ -106,15 +100,9 @@ pub fn assemble(
             relocations,
             names,
         ),
-        Pass1Step::Refused {
-            number,
-            start,
-            end,
-            start2,
-            end2,
-        } => {
+        Pass1Step::Refused(r) => {
             object_layout::clear(blocks, words, marks, labels, relocations, names);
-            refusal(number, start, end, start2, end2)
+            refusal(r.number, r.start, r.end, r.start2, r.end2)
         }
     }
 }

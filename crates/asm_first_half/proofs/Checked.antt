@@ -9,6 +9,7 @@ use Rattle.rules.specs.Statements.{Stmt, statements}
 use Rattle.rules.specs.Objects.{Object}
 use Rattle.rules.specs.Passes.{Pass1State, pass1Start, passOne, assemble}
 use Rattle.rules.proofs.Bools.{never}
+use Rattle.base_refusals.specs.Refusals.{refusalAt}
 use Rattle.laws.proofs.Single.{Single, source-single}
 use Rattle.parse.specs.declared.Statements.{Statements}
 use Rattle.parse.specs.declared.Statements.the-variants as check
@@ -25,7 +26,7 @@ pub after-accepted : (y : Statements) (x r : Pass1Step) → y ≡ check.Accepted
 unfolding afterCheck
 after-accepted y x r e q = rw e q
 
-pub after-refused : (y : Statements) (x r : Pass1Step) (n a e : ℕ) → y ≡ check.Refused n a e → r ≡ Refused n a e 0 0 → r ≡ afterCheck y x
+pub after-refused : (y : Statements) (x r : Pass1Step) (n a e : ℕ) → y ≡ check.Refused n a e → r ≡ Refused (refusalAt n a e) → r ≡ afterCheck y x
 unfolding afterCheck
 after-refused y x r n a e h q = rw h q
 
@@ -67,16 +68,10 @@ check-refused s n a e h room = assemble-refused room s _ (known-refusal n a e (l
 same-went : (x y : code.Pass1State) → Went x ≡ Went y → x ≡ y
 same-went x y e = cc
 
-tabled-refused : (rs qs s : List ℕ) (n a e : ℕ) → check.Refused n a e ≡ codedStatements (sourceStatements s) → Tabled rs qs s (Refused n a e 0 0)
+tabled-refused : (rs qs s : List ℕ) (n a e : ℕ) → check.Refused n a e ≡ codedStatements (sourceStatements s) → Tabled rs qs s (Refused (refusalAt n a e))
 tabled-refused rs qs s n a e h = record {
   went = λ o q. (never cc);
-  stopped = λ m b c d f q room. (
-      let x : n ≡ m = cc in
-      let y : a ≡ b = cc in
-      let z : e ≡ c = cc in
-      let v : 0 ≡ d = cc in
-      let w : 0 ≡ f = cc in
-      check-refused s n a e h room ∙ (λ i. refuse2 (x i) (span (y i) (z i)) (span (v i) (w i))));
+  stopped = λ f q room. (let x : refusalAt n a e ≡ f = cc in rw (← x) (check-refused s n a e h room));
 }
 
 pass-refused : (room : ℕ) (s : List ℕ) (g : Readable s) (q : Refusal) → passOne (g .stmts) pass1Start ≡ refused q → assemble room s ≡ refused q
@@ -87,7 +82,7 @@ module _ (rs qs s : List ℕ) (x : Pass1Step) (h : PassedOne rs qs s x) where
   tabled-read : Readable s → Tabled rs qs s x
   tabled-read g = record {
     went = λ o e. record { readable = g; held = h .kept o e; first = sym (rw e at (h .rule (g .stmts) (g .read))) };
-    stopped = λ n a b c d e room. pass-refused room s g _ (sym (rw e at (h .rule (g .stmts) (g .read))));
+    stopped = λ f e room. pass-refused room s g _ (sym (rw e at (h .rule (g .stmts) (g .read))));
   }
 
   by-check : (y : Statements) → y ≡ codedStatements (sourceStatements s) → Tabled rs qs s (afterCheck y x)
@@ -102,5 +97,5 @@ module _ (rs qs s : List ℕ) (x : Pass1Step) (h : PassedOne rs qs s x) where
   went-read o e = h .read o e
 
 -- 11
-pub tabled-long : (rs qs s : List ℕ) → 262144 < length s → (r : Pass1Step) → r ≡ Refused 11 0 (length s) 0 0 → Tabled rs qs s r
+pub tabled-long : (rs qs s : List ℕ) → 262144 < length s → (r : Pass1Step) → r ≡ Refused (refusalAt 11 0 (length s)) → Tabled rs qs s r
 tabled-long rs qs s l r e = rw e (tabled-refused rs qs s 11 0 (length s) (source-long s l))

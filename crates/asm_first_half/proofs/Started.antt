@@ -7,6 +7,8 @@ use borrow.Author.Tests.{lt-leb}
 use Rattle.rules.specs.Base.{if_then_else_, refuse2, span}
 use Rattle.rules.specs.Passes.{assemble}
 use Rattle.rules.proofs.Bools.{never}
+use Rattle.base_refusals.specs.Refusals.{refusalAt}
+use Rattle.base_refusals.specs.declared.Refusal.{Refusal}
 use Rattle.pass1_state.specs.declared.Pass1State as code
 use Rattle.pass1_state.specs.declared.Pass1Step.{Pass1Step}
 use Rattle.pass1_state.specs.declared.Pass1Step.the-variants.{Went, Refused}
@@ -14,18 +16,12 @@ use Rattle.asm_first_half.specs.Tabled.{Begun, Tabled}
 use Rattle.asm_first_half.specs.Starting.{calling, Started}
 
 -- a refusal at no place
-started-none : (small : Bool) (room : ℕ) (rs qs s : List ℕ) (n : ℕ) → calling small room s ≡ refuse2 n (span 0 0) (span 0 0) → Started small room rs qs s (Refused n 0 0 0 0)
+started-none : (small : Bool) (room : ℕ) (rs qs s : List ℕ) (n : ℕ) → calling small room s ≡ refuse2 n (span 0 0) (span 0 0) → Started small room rs qs s (Refused (refusalAt n 0 0))
 started-none small room rs qs s n h = record {
   long = λ o e. (never cc);
   went = λ o e. (never cc);
   fits = λ o e. (never cc);
-  stopped = λ m a b c d e. (
-      let x : n ≡ m = cc in
-      let y : 0 ≡ a = cc in
-      let z : 0 ≡ b = cc in
-      let v : 0 ≡ c = cc in
-      let w : 0 ≡ d = cc in
-      h ∙ (λ i. refuse2 (x i) (span (y i) (z i)) (span (v i) (w i))));
+  stopped = λ f e. (let x : refusalAt n 0 0 ≡ f = cc in rw (← x) h);
 }
 
 calling-short : (small : Bool) (room : ℕ) (s : List ℕ) → small ≡ true → calling small room s ≡ refuse2 42 (span 0 0) (span 0 0)
@@ -41,11 +37,11 @@ no-room : (room : ℕ) (rs qs s : List ℕ) (o : code.Pass1State) → Begun rs q
 unfolding assemble
 no-room room rs qs s o g l = rw (g .readable .clean, g .readable .read, g .first, lt-leb (o .words) room l)
 
-pub started-short : (small : Bool) (room : ℕ) (rs qs s : List ℕ) (r : Pass1Step) → small ≡ true → r ≡ Refused 42 0 0 0 0 → Started small room rs qs s r
+pub started-short : (small : Bool) (room : ℕ) (rs qs s : List ℕ) (r : Pass1Step) → small ≡ true → r ≡ Refused (refusalAt 42 0 0) → Started small room rs qs s r
 started-short small room rs qs s r t e = rw e (started-none small room rs qs s 42 (calling-short small room s t))
 
 module _ (small : Bool) (room : ℕ) (rs qs s : List ℕ) (f : small ≡ false) (x : Pass1Step) (h : Tabled rs qs s x) where
-  pub started-full : (o : code.Pass1State) → x ≡ Went o → room < o .words → (r : Pass1Step) → r ≡ Refused 41 0 0 0 0 → Started small room rs qs s r
+  pub started-full : (o : code.Pass1State) → x ≡ Went o → room < o .words → (r : Pass1Step) → r ≡ Refused (refusalAt 41 0 0) → Started small room rs qs s r
   started-full o q l r e = rw e (started-none small room rs qs s 41 (calling-long small room s f ∙ no-room room rs qs s o (h .went o q) l))
 
   same-went : (o p : code.Pass1State) → Went o ≡ Went p → o ≡ p
@@ -56,13 +52,13 @@ module _ (small : Bool) (room : ℕ) (rs qs s : List ℕ) (f : small ≡ false) 
     long = λ p e. f;
     went = λ p e. h .went p (q ∙ e);
     fits = λ p e. (let z = same-went o p e in rw (← z) l);
-    stopped = λ n a b c d e. calling-long small room s f ∙ h .stopped n a b c d (q ∙ e) room;
+    stopped = λ y e. calling-long small room s f ∙ h .stopped y (q ∙ e) room;
   }
 
-  pub started-stopped : (n a b c d : ℕ) → x ≡ Refused n a b c d → Started small room rs qs s x
-  started-stopped n a b c d q = record {
+  pub started-stopped : (z : Refusal) → x ≡ Refused z → Started small room rs qs s x
+  started-stopped z q = record {
     long = λ p e. f;
     went = h .went;
-    fits = λ p e. (let y : Went p ≡ Refused n a b c d = sym e ∙ q in never cc);
-    stopped = λ n a b c d e. calling-long small room s f ∙ h .stopped n a b c d e room;
+    fits = λ p e. (let y : Went p ≡ Refused z = sym e ∙ q in never cc);
+    stopped = λ y e. calling-long small room s f ∙ h .stopped y e room;
   }

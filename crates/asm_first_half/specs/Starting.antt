@@ -3,9 +3,11 @@ use mathlib.Core.Path.{_≡_}
 use mathlib.Core.Bool.{Bool, false}
 use mathlib.Core.List.{List}
 use Prim.Native.Nat.{ℕ, _≤_}
-use Rattle.rules.specs.Base.{if_then_else_, Outcome, refuse, refuse2, span, nowhere}
+use Rattle.rules.specs.Base.{if_then_else_, Outcome, refuse, nowhere}
 use Rattle.rules.specs.Objects.{Object}
 use Rattle.rules.specs.Passes.{assemble}
+use Rattle.base_refusals.specs.Refusals.{refusedBy}
+use Rattle.base_refusals.specs.declared.Refusal.{Refusal}
 use Rattle.pass1_state.specs.declared.Pass1State.{Pass1State}
 use Rattle.pass1_state.specs.declared.Pass1Step.{Pass1Step}
 use Rattle.pass1_state.specs.declared.Pass1Step.the-variants.{Went, Refused}
@@ -20,4 +22,4 @@ pub record Started (small : Bool) (room : ℕ) (rs qs s : List ℕ) (r : Pass1St
   pub long : (o : Pass1State) → r ≡ Went o → small ≡ false
   pub went : (o : Pass1State) → r ≡ Went o → Begun rs qs s o
   pub fits : (o : Pass1State) → r ≡ Went o → o .words ≤ room
-  pub stopped : (n a b c d : ℕ) → r ≡ Refused n a b c d → calling small room s ≡ refuse2 n (span a b) (span c d)
+  pub stopped : (f : Refusal) → r ≡ Refused f → calling small room s ≡ refusedBy f

@@ -2,10 +2,12 @@
 use mathlib.Core.Path.{_≡_}
 use mathlib.Core.List.{List}
 use Prim.Native.Nat.{ℕ}
-use Rattle.rules.specs.Base.{ok, refuse2, span}
+use Rattle.rules.specs.Base.{ok}
 use Rattle.rules.specs.Tokens.{Token, lexed}
 use Rattle.rules.specs.Statements.{Stmt, statements}
 use Rattle.rules.specs.Passes.{pass1Start, passOne, assemble}
+use Rattle.base_refusals.specs.Refusals.{refusalAt, refusedBy}
+use Rattle.base_refusals.specs.declared.Refusal.{Refusal}
 use Rattle.parse.specs.declared.Statements.{Statements}
 use Rattle.parse.specs.declared.Statements.the-variants as check
 use Rattle.pass1_state.specs.declared.Pass1State.{Pass1State}
@@ -29,9 +31,9 @@ pub record Begun (rs qs s : List ℕ) (o : Pass1State) : Type 0 where
 -- a refusal of the source goes before pass one's answer
 unfoldable pub afterCheck : Statements → Pass1Step → Pass1Step
 afterCheck check.Accepted x = x
-afterCheck (check.Refused n a e) x = Refused n a e 0 0
+afterCheck (check.Refused n a e) x = Refused (refusalAt n a e)
 
 -- what is answered of a source, and the tables that are left: a refusal is that of assembling, however many words are lent
 pub record Tabled (rs qs s : List ℕ) (r : Pass1Step) : Type 0 where
   pub went : (o : Pass1State) → r ≡ Went o → Begun rs qs s o
-  pub stopped : (n a b c d : ℕ) → r ≡ Refused n a b c d → (room : ℕ) → assemble room s ≡ refuse2 n (span a b) (span c d)
+  pub stopped : (f : Refusal) → r ≡ Refused f → (room : ℕ) → assemble room s ≡ refusedBy f

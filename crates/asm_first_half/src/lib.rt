@@ -30,13 +30,7 @@ fn source_tables(src: &[u8], labels: &mut [u32], relocations: &mut [u32]) -> Pas
     let answer = pass1::pass_one(src, labels, relocations);
     match answer {
         Pass1Step::Went(_) => after_check(parse::check_bytes(src), answer),
-        Pass1Step::Refused {
-            number: _,
-            start: _,
-            end: _,
-            start2: _,
-            end2: _,
-        } => after_check(parse::check_source(src), answer),
+        Pass1Step::Refused(_) => after_check(parse::check_source(src), answer),
     }
 }
 
@@ -62,12 +56,6 @@ pub fn first_half(
             }
             answer
         }
-        Pass1Step::Refused {
-            number: _,
-            start: _,
-            end: _,
-            start2: _,
-            end2: _,
-        } => answer,
+        Pass1Step::Refused(_) => answer,
     }
 }

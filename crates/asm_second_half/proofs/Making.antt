@@ -12,6 +12,8 @@ use Rattle.rules.specs.Buffers.{Buffers, six, short, lentWords, headRow, sumOf,
 use Rattle.rules.specs.Passes.{pass1Start, Pass2State, pass2Start, passTwo}
 use Rattle.rules.proofs.Fits.{long, lent-in-words, lent-in-marks}
 use Rattle.rules.proofs.Bools.{never}
+use Rattle.base_refusals.specs.Refusals.{refusedBy}
+use Rattle.base_refusals.specs.declared.Refusal.{Refusal}
 use Rattle.pass1_state.specs.declared.Pass1State as code
 use Rattle.pass2_statement.specs.declared.Pass2State as code2
 use Rattle.pass2_statement.specs.declared.Pass2Step.{Pass2Step}
@@ -155,10 +157,10 @@ module _ (rs qs src : List ℕ) (o : code.Pass1State) (g : Begun rs qs src o) (b
       (r, record { rows = omega (arith, k .labels, r .names .few); names = omega (arith, k .names, r .names .few) }, omega (arith, k .relocs, r .table .few))
 
   module _ (bs′ ws′ ms′ : List ℕ) (lb : length bs′ ≡ length bs) (lw : length ws′ ≡ length ws) (lm : length ms′ ≡ length ms) (z : Pass2Step) (w : Wrote rs src (o .labels) bs′ ws′ ms′ z) where
-    stopping : (n a e c d : ℕ) → z ≡ Refused n a e c d → (ss : List Stmt) → statements src ≡ ok ss → afterPass2 ss (seen rs qs src o) ≡ refuse2 n (span a e) (span c d)
+    stopping : (f : Refusal) → z ≡ Refused f → (ss : List Stmt) → statements src ≡ ok ss → afterPass2 ss (seen rs qs src o) ≡ refusedBy f
     unfolding afterPass2
-    stopping n a e c d q ss s =
-        let v : refuse2 n (span a e) (span c d) ≡ passTwo (symbols (o .labels) rs src) ss pass2Start = rw q at (w .passed .rule ss s) in
+    stopping f q ss s =
+        let v : refusedBy f ≡ passTwo (symbols (o .labels) rs src) ss pass2Start = rw q at (w .passed .rule ss s) in
         rw (← v)
 
     pub made-whole : (t : code2.Pass2State) → z ≡ Went t → (ls′ rel′ ns′ : List ℕ)
@@ -171,13 +173,13 @@ module _ (rs qs src : List ℕ) (o : code.Pass1State) (g : Begun rs qs src o) (b
           let v : ok (viewPass2 bs′ (w .origs) ws′ ms′ u) ≡ passTwo (symbols (o .labels) rs src) (g .readable .stmts) pass2Start = rw q at (w .passed .rule (g .readable .stmts) (g .readable .read)) in
           making rs qs src o g bs′ (w .origs) ws′ ms′ u (w .passed .kept u q) i v (six bs ws ms ls rel ns) ls′ rel′ ns′ lb lw lm l k);
       stopped = stopping;
-      cleared = λ i j m n d y. (let v : Went t ≡ Refused i j m n d = sym e ∙ y in never cc);
+      cleared = λ f y. (let v : Went t ≡ Refused f = sym e ∙ y in never cc);
     }
 
     -- the layout knows buffers by their lengths: what pass two wrote counts for nothing
-    pub made-none : (n a e c d : ℕ) → z ≡ Refused n a e c d → (x : Buffers) → x ≡ layout nothing (six bs′ ws′ ms′ ls rel ns) → Made rs qs src o (six bs ws ms ls rel ns) z x
-    made-none n a e c d q x h = record {
-      went = λ u y. (let v : Went u ≡ Refused n a e c d = sym y ∙ q in never cc);
+    pub made-none : (f : Refusal) → z ≡ Refused f → (x : Buffers) → x ≡ layout nothing (six bs′ ws′ ms′ ls rel ns) → Made rs qs src o (six bs ws ms ls rel ns) z x
+    made-none f q x h = record {
+      went = λ u y. (let v : Went u ≡ Refused f = sym y ∙ q in never cc);
       stopped = stopping;
-      cleared = λ i j k l m y. h ∙ (λ v. six (layBlocks nothing (lb v)) (layWords nothing (lw v)) (layMarks nothing (lm v)) (layLabels nothing (length ls)) (layRelocs nothing (length rel)) (layNames nothing (length ns)));
+      cleared = λ g y. h ∙ (λ v. six (layBlocks nothing (lb v)) (layWords nothing (lw v)) (layMarks nothing (lm v)) (layLabels nothing (length ls)) (layRelocs nothing (length rel)) (layNames nothing (length ns)));
     }

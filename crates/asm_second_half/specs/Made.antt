@@ -3,12 +3,14 @@ use mathlib.Core.Path.{_≡_}
 use mathlib.Core.List.{List, map}
 use Prim.Native.Nat.{ℕ, _≤_}
 use lib.ListN.{length}
-use Rattle.rules.specs.Base.{Outcome, ok, refuse2, span, _>>=_}
+use Rattle.rules.specs.Base.{Outcome, ok, _>>=_}
 use Rattle.rules.specs.Tables.{mapT}
 use Rattle.rules.specs.Statements.{Stmt, statements}
 use Rattle.rules.specs.Objects.{Object, object, nothing, Counts, countsOf}
 use Rattle.rules.specs.Buffers.{Buffers, layout}
 use Rattle.rules.specs.Passes.{Pass1State, pass1Start, passOne, pass2Start, passTwo}
+use Rattle.base_refusals.specs.Refusals.{refusedBy}
+use Rattle.base_refusals.specs.declared.Refusal.{Refusal}
 use Rattle.pass1_state.specs.declared.Pass1State as code
 use Rattle.pass2_statement.specs.declared.Pass2State.{Pass2State}
 use Rattle.pass2_statement.specs.declared.Pass2Step.{Pass2Step}
@@ -54,5 +56,5 @@ pub record Making (o : code.Pass1State) (t : Pass2State) (w : Outcome Object) (b
 -- what pass two answers of buffers b, and leaves in them
 pub record Made (rs qs s : List ℕ) (o : code.Pass1State) (b : Buffers) (r : Pass2Step) (b′ : Buffers) : Type 0 where
   pub went : (t : Pass2State) → r ≡ Went t → (ss : List Stmt) → statements s ≡ ok ss → Making o t (afterPass2 ss (seen rs qs s o)) b b′
-  pub stopped : (n a e c d : ℕ) → r ≡ Refused n a e c d → (ss : List Stmt) → statements s ≡ ok ss → afterPass2 ss (seen rs qs s o) ≡ refuse2 n (span a e) (span c d)
-  pub cleared : (n a e c d : ℕ) → r ≡ Refused n a e c d → b′ ≡ layout nothing b
+  pub stopped : (f : Refusal) → r ≡ Refused f → (ss : List Stmt) → statements s ≡ ok ss → afterPass2 ss (seen rs qs s o) ≡ refusedBy f
+  pub cleared : (f : Refusal) → r ≡ Refused f → b′ ≡ layout nothing b

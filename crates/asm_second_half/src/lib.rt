@@ -74,13 +74,7 @@ pub fn write_object(
             lay_tables(src, rows, pending, o, labels, relocations, names);
             answer
         }
-        Pass2Step::Refused {
-            number: _,
-            start: _,
-            end: _,
-            start2: _,
-            end2: _,
-        } => {
+        Pass2Step::Refused(_) => {
             object_layout::clear(blocks, words, marks, labels, relocations, names);
             answer
         }

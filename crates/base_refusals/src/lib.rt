@@ -1,4 +1,4 @@
-// Document 01's refusals by name. What each means, and where its place is, stands in docs/RULES.md; the rules' own table is `Answers.refusals`.
+// Document 01's refusals by name, and a refusal with its places. What each means, and where its place is, stands in docs/RULES.md; the rules' own table is `Answers.refusals`.
 
 // Tokens, after LexErr of the Rust.
 pub const DOES_NOT_FIT_U16: u16 = 1;
@@ -73,3 +73,12 @@ pub const BAD_OBJECT: u16 = 43;
 pub const BAD_FIELD: u16 = 50;
 
 pub const NO_WRITE_ROOM: u16 = 51;
+
+// A refusal: its number and its two places, of which one that it does not have is 0 and 0.
+pub struct Refusal {
+    pub number: u16,
+    pub start: usize,
+    pub end: usize,
+    pub start2: usize,
+    pub end2: usize,
+}

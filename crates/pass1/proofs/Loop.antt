@@ -14,6 +14,8 @@ use Rattle.rules.specs.Objects.{Name}
 use Rattle.rules.proofs.Gave.{gave}
 use Rattle.rules.proofs.Following.{statements-on, statements-none, statements-refused, passOne-step}
 use Rattle.rules.proofs.Bools.{never}
+use Rattle.base_refusals.specs.Refusals.{refusalAt}
+use Rattle.base_refusals.specs.declared.Refusal.{Refusal}
 use Rattle.pass1_symbols.specs.Symbols.{symbols}
 use Rattle.pass1_relocations.specs.Pending.{notes}
 use Rattle.parse.specs.declared.Statement.{Statement}
@@ -50,8 +52,8 @@ module _ (o : code.Pass1State) (h : Steady o) where
   abbrev Finishing : (ℕ → Table Name Symbol) → (ℕ → Table ℕ Name) → Outcome Pass1State
   Finishing x y = passOne [] (viewPass1 x y o)
 
-  pub finish-open : o .inside ≡ true → (r : Pass1Step) → r ≡ Refused 22 (o .«orig_start») (o .«orig_end») 0 0 → counting.Stepping o Finishing r
-  finish-open i r q = rw q (stuck o Finishing 22 (o .«orig_start») (o .«orig_end») 0 0 (λ x y. rw i (sym (pass-open _ _ _ _ _))))
+  pub finish-open : o .inside ≡ true → (r : Pass1Step) → r ≡ Refused (refusalAt 22 (o .«orig_start») (o .«orig_end»)) → counting.Stepping o Finishing r
+  finish-open i r q = rw q (stuck o Finishing (refusalAt 22 (o .«orig_start») (o .«orig_end»)) (λ x y. rw i (sym (pass-open _ _ _ _ _))))
 
   pub finish-shut : o .inside ≡ false → counting.Stepping o Finishing (Went o)
   finish-shut i = went o Finishing o (record { steady = h; labels = refl; relocations = refl }) (λ x y. rw i (sym (pass-shut _ _ _ _)))
@@ -97,7 +99,7 @@ module _ (rs qs src : List ℕ) (size : length src ≤ 262144) (room : 6144 ≤ 
 
 module _ (rs₀ qs₀ rs qs src : List ℕ) (at : ℕ) (o : code.Pass1State) (g : Going rs₀ qs₀ rs qs src at o) (x : NextStatement) (h : x ≡ codedStatement (nextStatement src at)) where
   -- a source whose statements are refused
-  pub going-stop : (n a e : ℕ) → x ≡ next.Refused n a e → (r : Pass1Step) → r ≡ Refused n a e 0 0 → PassedOne rs qs src r
+  pub going-stop : (n a e : ℕ) → x ≡ next.Refused n a e → (r : Pass1Step) → r ≡ Refused (refusalAt n a e) → PassedOne rs qs src r
   going-stop n a e q r z = rw z (record {
     rule = λ ss y. (
         let w = was-refused (nextStatement src at) n a e (sym h ∙ q) in
@@ -175,14 +177,14 @@ module _ (rs₀ qs₀ rs qs src : List ℕ) (at : ℕ) (o : code.Pass1State) (g 
         back = λ rest e. g .back (it .read .stmt ∷ rest) (statements-on src at (it .read) (it .is) ∙ rw (nexts, e));
       }
 
-      pub going-refused : (n c d e l : ℕ) → a ≡ Refused n c d e l → PassedOne rs′ qs′ src a
-      going-refused n c d e l z = record {
+      pub going-refused : (f : Refusal) → a ≡ Refused f → PassedOne rs′ qs′ src a
+      going-refused f z = record {
         rule = λ ss y. (
             let w = after ss y in
             ap (told (λ n. symbols n rs′ src) (λ n. notes n qs′ src)) z
             ∙ (sym (ap (λ (t : Pass1Step). told (λ n. symbols n rs′ src) (λ n. notes n qs′ src) t >>= passOne (w .rest)) z) ∙ w .same));
         kept = step .kept;
-        read = λ o′ y. (let u : Went o′ ≡ Refused n c d e l = sym y ∙ z in never cc);
+        read = λ o′ y. (let u : Went o′ ≡ Refused f = sym y ∙ z in never cc);
       }
 
     -- one that only counts

@@ -12,6 +12,8 @@ use Rattle.rules.specs.Words as words
 use Rattle.rules.specs.Statements.{Name, Stmt, labelsAt}
 use Rattle.rules.proofs.Bools.{never, and-left, and-right}
 use Rattle.rules.specs.Passes.{Pass1State, wordLen, labelled, directed, advanced, stepOne}
+use Rattle.base_refusals.specs.Refusals.{refusedBy}
+use Rattle.base_refusals.specs.declared.Refusal.{Refusal}
 use Rattle.pass1_symbols.specs.Symbols.{symbols}
 use Rattle.pass1_relocations.specs.Pending.{notes}
 use Rattle.parse.specs.declared.Statement.{Statement}
@@ -38,9 +40,9 @@ module _ (rs qs src rs′ qs′ : List ℕ) (o : code.Pass1State) (f : Pass1Stat
       let w : f (seen rs qs src o) ≡ ok (seen rs′ qs′ src b) = sym (k .rule) ∙ ap (told (λ n. symbols n rs′ src) (λ n. notes n qs′ src)) q in
       record { rule = j .rule ∙ sym (ap (λ (x : Outcome Pass1State). x >>= g) w); kept = j .kept }
 
-  then-refused : (n c d e l : ℕ) → a ≡ Refused n c d e l → Stepping rs qs src rs′ qs′ o (λ v. f v >>= g) a
-  then-refused n c d e l q =
-      let w : f (seen rs qs src o) ≡ refuse2 n (span c d) (span e l) = sym (k .rule) ∙ ap (told (λ n. symbols n rs′ src) (λ n. notes n qs′ src)) q in
+  then-refused : (x : Refusal) → a ≡ Refused x → Stepping rs qs src rs′ qs′ o (λ v. f v >>= g) a
+  then-refusedBy x q =
+      let w : f (seen rs qs src o) ≡ refusedBy x = sym (k .rule) ∙ ap (told (λ n. symbols n rs′ src) (λ n. notes n qs′ src)) q in
       record {
         rule = ap (told (λ n. symbols n rs′ src) (λ n. notes n qs′ src)) q ∙ sym (ap (λ (x : Outcome Pass1State). x >>= g) w);
         kept = k .kept;
@@ -55,9 +57,9 @@ stands-low src st w = stands-sound src st w .low
 
 module _ (rs qs src : List ℕ) (o : code.Pass1State) (st : Statement) (w : Stands src st) (rs′ qs′ : List ℕ) (a : Pass1Step)
     (k : (at : ℕ) (s : Stmt) → Faithful src at st s → Stepping rs qs src rs′ qs′ o (λ v. directed (s .op) s v) a) where
-  pub on-refused : (n c d e l : ℕ) → a ≡ Refused n c d e l → (at : ℕ) (s : Stmt) → Faithful src at st s → Stepping rs qs src rs′ qs′ o (stepOn s) a
+  pub on-refused : (x : Refusal) → a ≡ Refused x → (at : ℕ) (s : Stmt) → Faithful src at st s → Stepping rs qs src rs′ qs′ o (stepOn s) a
   unfolding stepOn
-  on-refused n c d e l q at s f = then-refused rs qs src rs′ qs′ o (λ v. directed (s .op) s v) a (k at s f) (λ b. advanced (wordLen (s .op) s) (s .place) b) n c d e l q
+  on-refusedBy x q at s f = then-refused rs qs src rs′ qs′ o (λ v. directed (s .op) s v) a (k at s f) (λ b. advanced (wordLen (s .op) s) (s .place) b) x q
 
   module _ (b : code.Pass1State) (q : a ≡ Went b) where
     on-held : Held rs′ qs′ src b
@@ -98,9 +100,9 @@ module _ (rs qs src : List ℕ) (o : code.Pass1State) (h : Held rs qs src o) (st
   labels-by : (s : Stmt) → Faithful src at st s → Stepping rs qs src rs′ qs o (λ v. labelled (s .labels) (s .place) v) a
   labels-by s f = record { rule = both .rule ∙ (λ i. labelled (sym (f .labels) i) (sym (f .place) i) (seen rs qs src o)); kept = both .kept }
 
-  pub step-refused : (n c d e l : ℕ) → a ≡ Refused n c d e l → (s : Stmt) → Faithful src at st s → Stepping rs qs src rs′ qs o (stepOne s) a
+  pub step-refused : (x : Refusal) → a ≡ Refused x → (s : Stmt) → Faithful src at st s → Stepping rs qs src rs′ qs o (stepOne s) a
   unfolding stepOne stepOn
-  step-refused n c d e l q s f = then-refused rs qs src rs′ qs o (λ v. labelled (s .labels) (s .place) v) a (labels-by s f) (stepOn s) n c d e l q
+  step-refusedBy x q s f = then-refused rs qs src rs′ qs o (λ v. labelled (s .labels) (s .place) v) a (labels-by s f) (stepOn s) x q
 
   module _ (b : code.Pass1State) (q : a ≡ Went b) where
     pub step-went : (rs″ qs″ : List ℕ) (r : Pass1Step) → ((at : ℕ) (s : Stmt) → Faithful src at st s → Stepping rs′ qs src rs″ qs″ b (stepOn s) r) → (s : Stmt) → Faithful src at st s → Stepping rs qs src rs″ qs″ o (stepOne s) r

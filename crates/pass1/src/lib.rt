@@ -34,13 +34,7 @@ fn step_on(
             let size = parse_meaning::word_len(src, st);
             pass1_state::shift(next, size, st.start, st.end)
         }
-        Pass1Step::Refused {
-            number: _,
-            start: _,
-            end: _,
-            start2: _,
-            end2: _,
-        } => answer,
+        Pass1Step::Refused(_) => answer,
     }
 }
 
@@ -59,13 +53,7 @@ fn step_labelled(
     let answer = pass1_labels::define_labels(src, labels, at, o, st.start, st.end);
     match answer {
         Pass1Step::Went(next) => step_on(src, labels, relocations, st, next),
-        Pass1Step::Refused {
-            number: _,
-            start: _,
-            end: _,
-            start2: _,
-            end2: _,
-        } => answer,
+        Pass1Step::Refused(_) => answer,
     }
 }
 
@@ -144,13 +132,7 @@ pub fn pass_one(src: &[u8], labels: &mut [u32], relocations: &mut [u32]) -> Pass
                         o = next;
                         at = st.next;
                     }
-                    Pass1Step::Refused {
-                        number: _,
-                        start: _,
-                        end: _,
-                        start2: _,
-                        end2: _,
-                    } => {
+                    Pass1Step::Refused(_) => {
                         return answer;
                     }
                 }

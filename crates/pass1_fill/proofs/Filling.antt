@@ -15,6 +15,7 @@ use Rattle.rules.specs.Statements.{Name, Stmt, Target}
 use Rattle.rules.specs.Passes.{Symbol, Cursor, Pass1State, relocated, filled, directed}
 use Rattle.rules.specs.Buffers.{labFrom}
 use Rattle.rules.proofs.Bools.{never}
+use Rattle.base_refusals.specs.Refusals.{refusalAt}
 use Rattle.parse_labels.specs.Names.{nameFrom, nameBetween, Between}
 use Rattle.pass1_symbols.specs.Symbols.{symbols, Growing}
 use Rattle.pass1_symbols.specs.Adding.{Found, found}
@@ -99,7 +100,7 @@ module _ (o : code.Pass1State) (a e : ℕ) (z : Noted) where
   pub step-held : (m : ℕ) (o′ : code.Pass1State) → z ≡ noted.Held m → o′ ≡ withRelocations o m → stepped.Went o′ ≡ stepOf o a e z
   step-held m o′ q w = rw (q, w)
 
-  pub step-full : (r : Pass1Step) → z ≡ noted.Full → r ≡ stepped.Refused 40 a e 0 0 → r ≡ stepOf o a e z
+  pub step-full : (r : Pass1Step) → z ≡ noted.Full → r ≡ stepped.Refused (refusalAt 40 a e) → r ≡ stepOf o a e z
   step-full r q w = rw (q, w)
 
 -- AN EXTERNAL
@@ -159,7 +160,7 @@ module _ (rs qs src : List ℕ) (o : code.Pass1State) (h : Held rs qs src o) (b 
         outside : Rule (seen rs qs src o) ≡ Noting (t .name) (s .place) (seen rs qs src o) (seen rs qs src o .cursor)
         outside = fill-rule s t (seen rs qs src o) aim ∙ filled-outer (t .name) (s .place) (seen rs qs src o) (is ∙ q)
 
-        pub fill-21 : o .inside ≡ false → (r : Pass1Step) → r ≡ stepped.Refused 21 st en 0 0 → Stepping rs qs src rs qs o Rule r
+        pub fill-21 : o .inside ≡ false → (r : Pass1Step) → r ≡ stepped.Refused (refusalAt 21 st en) → Stepping rs qs src rs qs o Rule r
         fill-21 c r z = rw z (record {
           rule = sym (outside ∙ rw (c, place));
           kept = λ o′ z. (never cc);

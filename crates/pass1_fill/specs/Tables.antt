@@ -9,6 +9,7 @@ use Rattle.rules.specs.Base.{Outcome}
 use Rattle.rules.specs.Objects.{Lab, outer, defined}
 use Rattle.rules.specs.Passes.{Symbol}
 use Rattle.rules.specs.Passes as rule
+use Rattle.base_refusals.specs.Refusals.{refusalAt}
 use Rattle.pass1_symbols.specs.Symbols.{symbols}
 use Rattle.pass1_relocations.specs.Pending.{notes, Pending}
 use Rattle.pass1_relocations.specs.declared.Noted.{Noted}
@@ -22,7 +23,7 @@ use Rattle.pass1_labels.specs.Tables.{Lent}
 -- what a relocation noted or not makes of a state, for a statement from a up to e
 abbrev pub stepOf : Pass1State → (a e : ℕ) → Noted → Pass1Step
 stepOf o a e (noted.Held n) = Went (withRelocations o n)
-stepOf o a e noted.Full = Refused 40 a e 0 0
+stepOf o a e noted.Full = Refused (refusalAt 40 a e)
 
 abbrev pub outerLab : Lab → Bool
 outerLab outer = true

@@ -14,6 +14,8 @@ use Rattle.rules.specs.Passes.{Symbol, addLabel, addLabels}
 use Rattle.rules.specs.Buffers.{labFrom}
 use Rattle.rules.proofs.Ahead.{label-in, names-on, names-done}
 use Rattle.rules.proofs.Bools.{never}
+use Rattle.base_refusals.specs.Refusals.{refusal, refusalAt}
+use Rattle.base_refusals.specs.declared.Refusal.{Refusal}
 use Rattle.parse_labels.specs.Names.{nameFrom, nameBetween}
 use Rattle.parse_labels.specs.Walk.{labelFrom, labelled, Heads}
 use Rattle.parse_labels.specs.declared.NextLabel.{NextLabel}
@@ -28,7 +30,7 @@ use Rattle.pass1_labels.specs.Naming.{told, NamesReady, NameReady, NameA
 use Rattle.parse_labels.proofs.Texts.{name-stands}
 use Rattle.parse_labels.proofs.Before.{heads-on}
 
-refused-no : {A : Type 0} {n a e b d m : ℕ} → Refused n a e b d ≡ Held m → A
+refused-no : {A : Type 0} {f : Refusal} {m : ℕ} → Refused f ≡ Held m → A
 refused-no q = never cc
 
 -- ONE NAME
@@ -59,7 +61,7 @@ module _ (rs src : List ℕ) (n a f b e : ℕ) (v : NameReady rs src n a f b e) 
       pub clash-in : (k : ℕ) → r ≡ added.Clash k → k * 4 + 4 ≤ length rs′
       clash-in k q = let w = h .clash k q in rw (w .1) (omega (arith, w .0, v .table .few, v .table .room))
 
-      pub name-clash : (k : ℕ) → r ≡ added.Clash k → (z : LabelsAdded) → z ≡ Refused 25 (getD rs′ (k * 4 + 2) 0) (getD rs′ (k * 4 + 2) 0 + getD rs′ (k * 4 + 3) 0) b e → NameAdded rs src rs′ n a f b e (span st en) z
+      pub name-clash : (k : ℕ) → r ≡ added.Clash k → (z : LabelsAdded) → z ≡ Refused (refusal 25 (getD rs′ (k * 4 + 2) 0) (getD rs′ (k * 4 + 2) 0 + getD rs′ (k * 4 + 3) 0) b e) → NameAdded rs src rs′ n a f b e (span st en) z
       name-clash k q z u =
           let w = h .clash k q .1 in
           let i : s + l ≡ e = omega (arith, v .rising) in
@@ -69,7 +71,7 @@ module _ (rs src : List ℕ) (n a f b e : ℕ) (v : NameReady rs src n a f b e) 
             table = λ m y. refused-no y;
           })
 
-      pub name-full : r ≡ added.Full → NameAdded rs src rs′ n a f b e (span st en) (Refused 40 st en 0 0)
+      pub name-full : r ≡ added.Full → NameAdded rs src rs′ n a f b e (span st en) (Refused (refusalAt 40 st en))
       name-full q = record {
         rule = sym (ap (outcome rs src rs′ s l (span st en)) q) ∙ ruled;
         table = λ m y. refused-no y;
@@ -164,8 +166,8 @@ module _ (rs₀ src rs : List ℕ) (at n a : ℕ) (p : Span) (i held : ℕ) (g :
         heads = let u = it in rw (u .onward) (heads-on src i (p .start) (nameBetween src b e) (u .named) (g .heads));
       }
 
-      pub going-refused : (u c d v w : ℕ) → r ≡ Refused u c d v w → NamesAdded rs₀ src rs′ at n a p r
-      going-refused u c d v w z = record {
+      pub going-refused : (f : Refusal) → r ≡ Refused f → NamesAdded rs₀ src rs′ at n a p r
+      going-refused f z = record {
         rule = ap (told rs′ src) z ∙ (sym (ap (λ (y : LabelsAdded). told rs′ src y >>= addLabels a p (labelsAt src j)) z) ∙ rest);
         table = k .table;
       }

@@ -14,6 +14,8 @@ use Rattle.rules.specs.Statements.{Name, Stmt, Target, labelsAt, pastLabel}
 use Rattle.rules.specs.Passes.{Symbol, Cursor, Pass1State, pass1State, withSymbols, addLabel, addLabels, labelled, directed}
 use Rattle.rules.proofs.Ahead.{names-on, names-done}
 use Rattle.rules.proofs.Bools.{never}
+use Rattle.base_refusals.specs.Refusals.{refusalAt}
+use Rattle.base_refusals.specs.declared.Refusal.{Refusal}
 use Rattle.parse_labels.specs.Names.{nameBetween}
 use Rattle.parse_labels.specs.Walk.{labelFrom}
 use Rattle.parse_labels.specs.declared.NextLabel.{NextLabel}
@@ -57,8 +59,8 @@ module _ (o : code.Pass1State) (z : LabelsAdded) where
   pub step-held : (m : ℕ) (o′ : code.Pass1State) → z ≡ Held m → o′ ≡ withLabels o m → stepped.Went o′ ≡ stepOf o z
   step-held m o′ q e = rw (q, e)
 
-  pub step-refused : (n a e b d : ℕ) → z ≡ Refused n a e b d → stepped.Refused n a e b d ≡ stepOf o z
-  step-refused n a e b d q = rw q
+  pub step-refused : (f : Refusal) → z ≡ Refused f → stepped.Refused f ≡ stepOf o z
+  step-refused f q = rw q
 
 module _ (rs src : List ℕ) (o : code.Pass1State) (h : Lent rs src o) where
   pub names-ready : NamesReady rs src (o .labels) (o .counter)
@@ -68,7 +70,7 @@ module _ (rs src : List ℕ) (o : code.Pass1State) (h : Lent rs src o) where
   module _ (rs′ : List ℕ) (z : LabelsAdded) (g : (m : ℕ) → z ≡ Held m → Growing rs′ src m) where
     went-on : (y : ℕ → Table ℕ objects.Name) (u : LabelsAdded) → told (λ n. symbols n rs′ src) y (stepOf o u) ≡ (naming.told rs′ src u >>= λ ss. ok (pass1State (cursorOf (o .inside) (cursor (o .start) (o .counter) (span (o .«orig_start») (o .«orig_end»)))) ss (y (o .relocations)) (o .blocks) (o .words)))
     went-on y (Held m) = refl
-    went-on y (Refused n a e b d) = refl
+    went-on y (Refused f) = refl
 
     steady-with : (m : ℕ) → Steady (withLabels o m)
     steady-with m = record { rising = h .steady .rising; address = h .steady .address; few = h .steady .few; sum = h .steady .sum }
@@ -78,7 +80,7 @@ module _ (rs src : List ℕ) (o : code.Pass1State) (h : Lent rs src o) where
         let w : withLabels o m ≡ o′ = cc in
         let v : Kept rs′ src o (withLabels o m) = record { lent = record { steady = steady-with m; table = g m q; size = h .size }; relocations = refl } in
         rw w at v
-    kept-by (Refused n a e′ b d) q o′ e = never cc
+    kept-by (Refused f) q o′ e = never cc
 
   -- AN EXTERNAL
   module _ (b e st en : ℕ) where
@@ -109,7 +111,7 @@ module _ (rs src : List ℕ) (o : code.Pass1State) (h : Lent rs src o) where
 
     -- OUTSIDE
     module _ (i : o .inside ≡ false) (x : NextLabel) (f : x ≡ labelFrom src at) where
-      pub define-outside : (b e j : ℕ) → x ≡ Label b e j → (r : Pass1Step) → r ≡ stepped.Refused 20 b e 0 0 → Stepping rs src rs o Rule r
+      pub define-outside : (b e j : ℕ) → x ≡ Label b e j → (r : Pass1Step) → r ≡ stepped.Refused (refusalAt 20 b e) → Stepping rs src rs o Rule r
       define-outside b e j q r u =
           let m = met src at x b e j f q in
           let n = names-on src at (nameBetween src b e) (m .named) in

@@ -3,12 +3,13 @@ use mathlib.Core.Path.{_≡_}
 use mathlib.Core.List.{List}
 use Prim.Native.Nat.{ℕ, _-_, _≤_, _<_}
 use lib.ListN.{length}
-use Rattle.rules.specs.Base.{Outcome, ok, refuse2, Span, span}
+use Rattle.rules.specs.Base.{Outcome, ok, Span}
 use Rattle.rules.specs.Tables.{Table}
 use Rattle.rules.specs.Objects.{Name}
 use Rattle.rules.specs.Statements.{labelsAt}
 use Rattle.rules.specs.Passes.{Symbol, addLabel, addLabels}
 use Rattle.rules.specs.Buffers.{labFrom}
+use Rattle.base_refusals.specs.Refusals.{refusedBy}
 use Rattle.parse_labels.specs.Names.{nameBetween}
 use Rattle.pass1_symbols.specs.Symbols.{symbols, Cells, Growing}
 use Rattle.pass1_labels.specs.declared.LabelsAdded.{LabelsAdded}
@@ -17,7 +18,7 @@ use Rattle.pass1_labels.specs.declared.LabelsAdded.the-variants.{Held, R
 -- what an answer stands for, with the rows afterwards
 abbrev pub told : (rs′ src : List ℕ) → LabelsAdded → Outcome (Table Name Symbol)
 told rs′ src (Held m) = ok (symbols m rs′ src)
-told rs′ src (Refused n a e b d) = refuse2 n (span a e) (span b d)
+told rs′ src (Refused f) = refusedBy f
 
 -- a table over a source that fits
 pub record NamesReady (rs src : List ℕ) (n a : ℕ) : Type 0 where

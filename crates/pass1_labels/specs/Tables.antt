@@ -17,7 +17,7 @@ use Rattle.pass1_labels.specs.declared.LabelsAdded.the-variants.{Held, R
 
 abbrev pub stepOf : Pass1State → LabelsAdded → Pass1Step
 stepOf o (Held n) = stepped.Went (withLabels o n)
-stepOf o (Refused n a e b d) = stepped.Refused n a e b d
+stepOf o (Refused f) = stepped.Refused f
 
 -- the symbols of a state, in rows over a source that fits
 pub record Lent (rs src : List ℕ) (o : Pass1State) : Type 0 where

@@ -3,6 +3,7 @@ use base_capacities::DEFINED;
 use base_capacities::EXTERNAL;
 use base_casts::narrow;
 use base_casts::wide;
+use base_refusals::Refusal;
 use parse_labels::NextLabel;
 use pass1_state::Pass1State;
 use pass1_state::Pass1Step;
@@ -15,6 +16,7 @@ ghost use Rattle.rules.specs.Base.{span};
 ghost use Rattle.rules.specs.Words.{external};
 ghost use Rattle.rules.specs.Statements.{Stmt, Target, labelsAt};
 ghost use Rattle.rules.specs.Passes.{labelled, directed};
+ghost use Rattle.base_refusals.specs.Refusals.{refusal};
 ghost use Rattle.pass1_labels.specs.Naming.{NameReady, NameAdded, NamesReady, NamesAdded};
 ghost use Rattle.parse_labels.specs.Names.{nameBetween, Between};
 ghost use Rattle.parse_labels.specs.Walk.{Heads};
@@ -23,13 +25,7 @@ ghost use Rattle.pass1_labels.specs.Tables.{stepOf, Lent, Stepping};
 // The table has so many rows, with what was added; or the refusal with its number and both spans.
 pub enum LabelsAdded {
     Held(usize),
-    Refused {
-        number: u16,
-        start: usize,
-        end: usize,
-        start2: usize,
-        end2: usize,
-    },
+    Refused(Refusal),
 }
 
 // A cell of row k.
@@ -44,17 +40,17 @@ fn cell(rows: &[u32], k: usize, j: usize) -> u32
 // 25: the name of row k, and the one at another address.
 fn clash(rows: &[u32], k: usize, from: usize, to: usize) -> LabelsAdded
     requires { ⌜ k * 4 + 4 ≤ length (now rows) ⌝ }
-    ensures { λ r. ⌜ r ≡ LabelsAdded.Refused 25 (getD (now (rows .entry)) (k * 4 + 2) 0) (getD (now (rows .entry)) (k * 4 + 2) 0 + getD (now (rows .entry)) (k * 4 + 3) 0) from to ⌝ }
+    ensures { λ r. ⌜ r ≡ LabelsAdded.Refused (refusal 25 (getD (now (rows .entry)) (k * 4 + 2) 0) (getD (now (rows .entry)) (k * 4 + 2) 0 + getD (now (rows .entry)) (k * 4 + 3) 0) from to) ⌝ }
 {
     let start = wide(cell(rows, k, base_capacities::NAME_START));
     let size = wide(cell(rows, k, base_capacities::NAME_LENGTH));
-    LabelsAdded::Refused {
+    LabelsAdded::Refused(Refusal {
         number: base_refusals::OVERLAPPING_LABELS,
         start,
         end: start + size,
         start2: from,
         end2: to,
-    }
+    })
 }
 
 // The name between two places of the source, at an address, for a statement from `start` up to `end`; the flag is 1 of an external.
@@ -77,13 +73,13 @@ pub fn add_label(
     match pass1_symbols::add_symbol(rows, src, n, address, flag, first, size) {
         Added::Held(m) => LabelsAdded::Held(m),
         Added::Clash(k) => clash(rows, k, from, to),
-        Added::Full => LabelsAdded::Refused {
+        Added::Full => LabelsAdded::Refused(Refusal {
             number: base_refusals::TABLE_FULL,
             start,
             end,
             start2: 0,
             end2: 0,
-        },
+        }),
     }
 }
 
@@ -115,13 +111,7 @@ pub fn add_labels(
                         held = m;
                         i = next;
                     }
-                    LabelsAdded::Refused {
-                        number: _,
-                        start: _,
-                        end: _,
-                        start2: _,
-                        end2: _,
-                    } => {
+                    LabelsAdded::Refused(_) => {
                         return answer;
                     }
                 }
@@ -139,19 +129,7 @@ pub fn step_of(o: Pass1State, answer: LabelsAdded) -> Pass1Step
 {
     match answer {
         LabelsAdded::Held(n) => Pass1Step::Went(pass1_state::with_labels(o, n)),
-        LabelsAdded::Refused {
-            number,
-            start,
-            end,
-            start2,
-            end2,
-        } => Pass1Step::Refused {
-            number,
-            start,
-            end,
-            start2,
-            end2,
-        },
+        LabelsAdded::Refused(refusal) => Pass1Step::Refused(refusal),
     }
 }
 

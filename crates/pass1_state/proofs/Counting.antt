@@ -3,7 +3,7 @@ use mathlib.Core.Path.{_≡_, refl, sym}
 use mathlib.Core.Bool.{true, false}
 use Prim.Native.Nat.{ℕ, _+_, _-_, _≤_, _<_}
 use native.Mathlib.Omega.{arith}
-use Rattle.rules.specs.Base.{Outcome, ok, refuse2, span}
+use Rattle.rules.specs.Base.{Outcome, ok, span}
 use Rattle.rules.specs.Tables.{Table}
 use Rattle.rules.specs.Objects.{Name}
 use Rattle.rules.specs.Words.{orig}
@@ -12,6 +12,8 @@ use Rattle.rules.specs.Statements.{Stmt}
 use Rattle.rules.specs.Passes.{Symbol, advanced, directed}
 use Rattle.rules.specs.Passes as rule
 use Rattle.rules.proofs.Bools.{never}
+use Rattle.base_refusals.specs.Refusals.{refusal, refusalAt, refusedBy}
+use Rattle.base_refusals.specs.declared.Refusal.{Refusal}
 use Rattle.pass1_state.specs.declared.Pass1State.{Pass1State}
 use Rattle.pass1_state.specs.declared.Pass1Step.{Pass1Step}
 use Rattle.pass1_state.specs.declared.Pass1Step.the-variants.{Went, Refused}
@@ -25,8 +27,8 @@ Rule = (ℕ → Table Name Symbol) → (ℕ → Table ℕ Name) → Outcome rule
 pub went : (o : Pass1State) (f : Rule) (o′ : Pass1State) → Kept o o′ → ((x : ℕ → Table Name Symbol) (y : ℕ → Table ℕ Name) → ok (viewPass1 x y o′) ≡ f x y) → Stepping o f (Went o′)
 went o f o′ k e = record { rule = e; kept = λ z q. (let w : o′ ≡ z = cc in rw w at k) }
 
-pub stuck : (o : Pass1State) (f : Rule) (n a e b d : ℕ) → ((x : ℕ → Table Name Symbol) (y : ℕ → Table ℕ Name) → refuse2 n (span a e) (span b d) ≡ f x y) → Stepping o f (Refused n a e b d)
-stuck o f n a e b d q = record { rule = q; kept = λ z w. (never cc) }
+pub stuck : (o : Pass1State) (f : Rule) (w : Refusal) → ((x : ℕ → Table Name Symbol) (y : ℕ → Table ℕ Name) → refusedBy w ≡ f x y) → Stepping o f (Refused w)
+stuck o f w q = record { rule = q; kept = λ z e. (never cc) }
 
 still : (o : Pass1State) → Steady o → Kept o o
 still o h = record { steady = h; labels = refl; relocations = refl }
@@ -48,18 +50,18 @@ module _ (o : Pass1State) (h : Steady o) (n a e : ℕ) where
           (record { steady = record { rising = omega (arith, h .rising); address = omega arith; few = h .few; sum = h .sum }; labels = refl; relocations = refl })
           (λ x y. rw i (sym (advance-on _ _ _ _ n (span a e) _ _ _ z (omega arith)))))
 
-      pub step-27 : (r : Pass1Step) (k : ℕ) → r ≡ Refused 27 a e 0 0 → k ≡ o .counter + n → 0xfe00 < k → k ≤ 0x10000 → Stepping o Advancing r
-      step-27 r k q s l m = rw q (stuck o Advancing 27 a e 0 0 (λ x y. rw i (sym (advance-27 _ _ _ _ n (span a e) _ _ _ z (omega arith) (omega arith)))))
+      pub step-27 : (r : Pass1Step) (k : ℕ) → r ≡ Refused (refusalAt 27 a e) → k ≡ o .counter + n → 0xfe00 < k → k ≤ 0x10000 → Stepping o Advancing r
+      step-27 r k q s l m = rw q (stuck o Advancing (refusalAt 27 a e) (λ x y. rw i (sym (advance-27 _ _ _ _ n (span a e) _ _ _ z (omega arith) (omega arith)))))
 
-      pub step-26 : (r : Pass1Step) (k : ℕ) → r ≡ Refused 26 a e 0 0 → k ≡ o .counter + n → 0x10000 < k → Stepping o Advancing r
-      step-26 r k q s l = rw q (stuck o Advancing 26 a e 0 0 (λ x y. rw i (sym (advance-26 _ _ _ _ n (span a e) _ _ _ z (omega arith)))))
+      pub step-26 : (r : Pass1Step) (k : ℕ) → r ≡ Refused (refusalAt 26 a e) → k ≡ o .counter + n → 0x10000 < k → Stepping o Advancing r
+      step-26 r k q s l = rw q (stuck o Advancing (refusalAt 26 a e) (λ x y. rw i (sym (advance-26 _ _ _ _ n (span a e) _ _ _ z (omega arith)))))
 
 module _ (o : Pass1State) (h : Steady o) (n a e : ℕ) (t : Stmt) (b : t .bits ≡ n) (p : t .place ≡ span a e) where
   abbrev Beginning : Rule
   Beginning x y = directed orig t (viewPass1 x y o)
 
-  pub begin-open : o .inside ≡ true → Stepping o Beginning (Refused 24 (o .«orig_start») (o .«orig_end») a e)
-  begin-open i = stuck o Beginning 24 (o .«orig_start») (o .«orig_end») a e (λ x y. rw i (rw (← p) (sym (orig-inside _ _ _ _ t _))))
+  pub begin-open : o .inside ≡ true → Stepping o Beginning (Refused (refusal 24 (o .«orig_start») (o .«orig_end») a e))
+  begin-open i = stuck o Beginning (refusal 24 (o .«orig_start») (o .«orig_end») a e) (λ x y. rw i (rw (← p) (sym (orig-inside _ _ _ _ t _))))
 
   pub begin-new : o .inside ≡ false → n < 65536 → (o′ : Pass1State) → o′ ≡ opening o n a e → Stepping o Beginning (Went o′)
   begin-new i l o′ q = rw q (went o Beginning (opening o n a e)
@@ -70,8 +72,8 @@ module _ (o : Pass1State) (h : Steady o) (a e : ℕ) (t : Stmt) (p : t .place �
   abbrev Ending : Rule
   Ending x y = directed words.end t (viewPass1 x y o)
 
-  pub end-none : o .inside ≡ false → (r : Pass1Step) → r ≡ Refused 23 a e 0 0 → Stepping o Ending r
-  end-none i r q = rw q (stuck o Ending 23 a e 0 0 (λ x y. rw i (rw (← p) (sym (end-outside _ _ _ _ t)))))
+  pub end-none : o .inside ≡ false → (r : Pass1Step) → r ≡ Refused (refusalAt 23 a e) → Stepping o Ending r
+  end-none i r q = rw q (stuck o Ending (refusalAt 23 a e) (λ x y. rw i (rw (← p) (sym (end-outside _ _ _ _ t)))))
 
   module _ (i : o .inside ≡ true) (k : ℕ) (s : k ≡ o .counter - o .start) where
     pub end-dropped : k ≡ 0 → (o′ : Pass1State) → o′ ≡ closing o (o .blocks) (o .words) → Stepping o Ending (Went o′)
@@ -87,5 +89,5 @@ module _ (o : Pass1State) (h : Steady o) (a e : ℕ) (t : Stmt) (p : t .place �
         (record { steady = record { rising = h .rising; address = h .address; few = omega arith; sum = omega (arith, h .sum, h .address) }; labels = refl; relocations = refl })
         (λ x y. rw i (sym (end-counted _ _ _ _ t _ _ _ (differ z) l))))
 
-    pub end-stuck : (k ≡ 0 → ⊥) → 64 ≤ o .blocks → (r : Pass1Step) → r ≡ Refused 40 a e 0 0 → Stepping o Ending r
-    end-stuck z l r q = rw q (stuck o Ending 40 a e 0 0 (λ x y. rw i (rw (← p) (sym (end-full _ _ _ _ t _ _ _ (differ z) l)))))
+    pub end-stuck : (k ≡ 0 → ⊥) → 64 ≤ o .blocks → (r : Pass1Step) → r ≡ Refused (refusalAt 40 a e) → Stepping o Ending r
+    end-stuck z l r q = rw q (stuck o Ending (refusalAt 40 a e) (λ x y. rw i (rw (← p) (sym (end-full _ _ _ _ t _ _ _ (differ z) l)))))

@@ -3,11 +3,12 @@ use mathlib.Core.Path.{_≡_}
 use mathlib.Core.Bool.{Bool, true, false}
 use mathlib.Core.Option.{Option, none, some}
 use Prim.Native.Nat.{ℕ, _*_, _≤_, _<_}
-use Rattle.rules.specs.Base.{Outcome, ok, refuse2, Span, span}
+use Rattle.rules.specs.Base.{Outcome, ok, Span, span}
 use Rattle.rules.specs.Tables.{Table}
 use Rattle.rules.specs.Objects.{Name}
 use Rattle.rules.specs.Passes.{Symbol, Cursor, pass1State}
 use Rattle.rules.specs.Passes as rule
+use Rattle.base_refusals.specs.Refusals.{refusedBy}
 use Rattle.pass1_state.specs.declared.Pass1State.{Pass1State}
 use Rattle.pass1_state.specs.declared.Pass1Step.{Pass1Step}
 use Rattle.pass1_state.specs.declared.Pass1Step.the-variants.{Went, Refused}
@@ -26,7 +27,7 @@ viewPass1 x y o = pass1State (cursorOf (o .inside) (cursor (o .start) (o .counte
 -- what a step's answer stands for
 abbrev pub told : (ℕ → Table Name Symbol) → (ℕ → Table ℕ Name) → Pass1Step → Outcome rule.Pass1State
 told x y (Went o) = ok (viewPass1 x y o)
-told x y (Refused n a e b f) = refuse2 n (span a e) (span b f)
+told x y (Refused f) = refusedBy f
 
 -- what always holds of the state: addresses of two bytes, and sums that fit
 pub record Steady (o : Pass1State) : Type 0 where

@@ -1,5 +1,6 @@
 // What pass one keeps beside its tables, whatever changes it, and the steps that change no table: the counter's advance, .orig and .end.
 use base_casts::wide;
+use base_refusals::Refusal;
 ghost use mathlib.Core.Path.{_≡_};
 ghost use Prim.Native.Nat.{_+_, _-_, _≤_, _<_};
 ghost use Rattle.rules.specs.Base.{span};
@@ -7,6 +8,7 @@ ghost use Rattle.rules.specs.Words.{orig};
 ghost use Rattle.rules.specs.Words as Words;
 ghost use Rattle.rules.specs.Statements.{Stmt};
 ghost use Rattle.rules.specs.Passes.{advanced, directed};
+ghost use Rattle.base_refusals.specs.Refusals.{refusalAt};
 ghost use Rattle.pass1_state.specs.State.{viewPass1, fresh, withLabels, withRelocations, counting, opening, closing, Steady, Stepping};
 
 // The open block's start, counter and .orig, where a block is open; the rows of both tables; and how many blocks with words are closed, with how many words.
@@ -25,26 +27,20 @@ pub struct Pass1State {
 // The state after a step, or the refusal with its number and both spans.
 pub enum Pass1Step {
     Went(Pass1State),
-    Refused {
-        number: u16,
-        start: usize,
-        end: usize,
-        start2: usize,
-        end2: usize,
-    },
+    Refused(Refusal),
 }
 
 // A refusal at one place.
 pub fn refused(number: u16, start: usize, end: usize) -> Pass1Step
-    ensures { λ r. ⌜ r ≡ Pass1Step.Refused number start end 0 0 ⌝ }
+    ensures { λ r. ⌜ r ≡ Pass1Step.Refused (refusalAt number start end) ⌝ }
 {
-    Pass1Step::Refused {
+    Pass1Step::Refused(Refusal {
         number,
         start,
         end,
         start2: 0,
         end2: 0,
-    }
+    })
 }
 
 // Pass one before the first statement.
@@ -176,13 +172,13 @@ pub fn begin_block(o: Pass1State, address: u32, start: usize, end: usize) -> Pas
     ensures { λ r. ⌜ ((s : Stmt) → s .bits ≡ address → s .place ≡ span start end → Stepping o (λ x y. directed orig s (viewPass1 x y o)) r) ⌝ }
 {
     if o.inside {
-        return Pass1Step::Refused {
+        return Pass1Step::Refused(Refusal {
             number: base_refusals::OVERLAPPING_ORIG,
             start: o.orig_start,
             end: o.orig_end,
             start2: start,
             end2: end,
-        };
+        });
     }
     Pass1Step::Went(begin(o, address, start, end))
 }

@@ -16,6 +16,7 @@ use Rattle.rules.proofs.Rows.{getD-zeros}
 use Rattle.rules.proofs.Gave.{gave}
 use Rattle.rules.proofs.Following.{statements-on, statements-none, statements-refused}
 use Rattle.rules.proofs.Bools.{never}
+use Rattle.base_refusals.specs.declared.Refusal.{Refusal}
 use Rattle.laws.proofs.Steps.{ended}
 use Rattle.laws.proofs.Alongside.{Level, Alongside, along-start, along-step}
 use Rattle.pass2_blocks.specs.Rows.{viewObjBlocks}
@@ -203,11 +204,11 @@ module _ (rs src : List ℕ) (n : ℕ) (bs₀ os₀ ws₀ ms₀ bs os ws ms : Li
             marks = omega (arith, g .marks);
           }
 
-      pub going-refused : (m b c d l : ℕ) → a ≡ Refused m b c d l → PassedTwo rs src n bs′ os′ ws′ ms′ a
-      going-refused m b c d l e = record {
+      pub going-refused : (f : Refusal) → a ≡ Refused f → PassedTwo rs src n bs′ os′ ws′ ms′ a
+      going-refused f e = record {
         rule = λ ss z. rw (← one-reading ss z) (ap (told bs′ os′ ws′ ms′) e ∙ (sym (ap (λ (z : Pass2Step). told bs′ os′ ws′ ms′ z >>= passTwo y (behind .rest)) e) ∙ after));
         kept = step .kept;
-        shut = λ u z. (let w : Refused m b c d l ≡ Went u = sym e ∙ z in never cc);
+        shut = λ u z. (let w : Refused f ≡ Went u = sym e ∙ z in never cc);
       }
 
     -- a statement whose word is known

@@ -10,6 +10,7 @@ use lib.ListN.{length, getD, drop}
 use lib.Seq.{getD-drop}
 use Rattle.rules.specs.Base.{if_then_else_, Outcome, ok, _>>=_, span}
 use Rattle.rules.specs.Passes.{ObjBlock, objBlock, pass2State, place, finish}
+use Rattle.base_refusals.specs.Refusals.{refusal}
 use Rattle.pass2_blocks.specs.Rows.{cellsAt, viewObjBlocks}
 use Rattle.pass2_blocks.specs.Placing.{Ready, PlacedAs}
 use Rattle.pass2_blocks.specs.Placing as order
@@ -32,7 +33,7 @@ module _ (t : Pass2State) (z : Placing) where
   pub close-placed : (r : Pass2State) → z ≡ placing.Placed → r ≡ closing t (t .blocks + 1) → Went r ≡ closeOf t z
   close-placed r q e = rw (q, e)
 
-  pub close-overlaps : (a b c d a′ b′ c′ d′ : ℕ) → z ≡ placing.Overlaps a b c d → a′ ≡ a → b′ ≡ b → c′ ≡ c → d′ ≡ d → Refused 28 a′ b′ c′ d′ ≡ closeOf t z
+  pub close-overlaps : (a b c d a′ b′ c′ d′ : ℕ) → z ≡ placing.Overlaps a b c d → a′ ≡ a → b′ ≡ b → c′ ≡ c → d′ ≡ d → Refused (refusal 28 a′ b′ c′ d′) ≡ closeOf t z
   close-overlaps a b c d a′ b′ c′ d′ q e f g h = rw (q, e, f, g, h)
 
 -- THE RULE
@@ -120,4 +121,4 @@ module _ (bs os ws ms : List ℕ) (t : Pass2State) (v : Ends bs os ws ms t) wher
 
             go : (o : Placing) → p ≡ o → Stepping bs′ os′ ws′ ms′ (finish (viewPass2 bs os ws ms t)) (closeOf t o)
             go placing.Placed e = went bs′ os′ ws′ ms′ _ (closing t (t .blocks + 1)) (still e) (sym (rule-is _ (ap (order.outcome (t .blocks) bs′ os′ ws′ ms′) e)))
-            go (placing.Overlaps c d f g) e = stuck bs′ os′ ws′ ms′ _ 28 c d f g (sym (rule-is _ (ap (order.outcome (t .blocks) bs′ os′ ws′ ms′) e)))
+            go (placing.Overlaps c d f g) e = stuck bs′ os′ ws′ ms′ _ (refusal 28 c d f g) (sym (rule-is _ (ap (order.outcome (t .blocks) bs′ os′ ws′ ms′) e)))

@@ -13,6 +13,8 @@ use Rattle.rules.specs.Statements.{Stmt}
 use Rattle.rules.specs.Passes.{Symbol, wordsOf, ObjBlock, objBlock, pass2State, emit}
 use Rattle.rules.specs.Passes as rule
 use Rattle.rules.proofs.Bools.{never}
+use Rattle.base_refusals.specs.Refusals.{refusalAt, refusedBy}
+use Rattle.base_refusals.specs.declared.Refusal.{Refusal}
 use Rattle.laws.proofs.Alongside.{words-size}
 use Rattle.pass2_blocks.specs.Rows.{cellsAt, viewObjBlocks}
 use Rattle.pass2_blocks.proofs.Placed.{cells-long}
@@ -34,15 +36,15 @@ use Rattle.pass2_statement.proofs.Views.{view-same, cells-behind, rows-
 pub went : (bs os ws ms : List ℕ) (o : Outcome rule.Pass2State) (t : Pass2State) → Standing bs os ws ms t → ok (viewPass2 bs os ws ms t) ≡ o → Stepping bs os ws ms o (Went t)
 went bs os ws ms o t k e = record { rule = e; kept = λ z q. (let w : t ≡ z = cc in rw w at k) }
 
-pub stuck : (bs os ws ms : List ℕ) (o : Outcome rule.Pass2State) (n a e b d : ℕ) → refuse2 n (span a e) (span b d) ≡ o → Stepping bs os ws ms o (Refused n a e b d)
-stuck bs os ws ms o n a e b d q = record { rule = q; kept = λ z w. (never cc) }
+pub stuck : (bs os ws ms : List ℕ) (o : Outcome rule.Pass2State) (f : Refusal) → refusedBy f ≡ o → Stepping bs os ws ms o (Refused f)
+stuck bs os ws ms o f q = record { rule = q; kept = λ z w. (never cc) }
 
 -- AN ANSWER AS A STEP
 module _ (t : Pass2State) (z : Written) where
   pub step-went : (u : ℕ) (t′ : Pass2State) → z ≡ Upto u → t′ ≡ withUsed t u → Went t′ ≡ stepOf t z
   step-went u t′ q e = rw (q, e)
 
-  pub step-refused : (n a e : ℕ) (r : Pass2Step) → z ≡ written.Refused n a e → r ≡ Refused n a e 0 0 → r ≡ stepOf t z
+  pub step-refused : (n a e : ℕ) (r : Pass2Step) → z ≡ written.Refused n a e → r ≡ Refused (refusalAt n a e) → r ≡ stepOf t z
   step-refused n a e r q h = rw (q, h)
 
 -- THE RULE
@@ -62,8 +64,8 @@ module _ (rs src : List ℕ) (n : ℕ) (ws ms : List ℕ) (st : Statement) (t : 
     abbrev ss : Table Name Symbol
     ss = symbols n rs src
 
-    pub emit-none : t .inside ≡ false → (r : Pass2Step) → r ≡ Refused 21 (st .start) (st .end) 0 0 → Stepping bs os ws ms (emit ss s (viewPass2 bs os ws ms t)) r
-    emit-none i r q = rw q (stuck bs os ws ms _ 21 (st .start) (st .end) 0 0 (rw i (rw (← f .place) (sym (emit-outside ss s (viewObjBlocks (t .blocks) bs os ws ms))))))
+    pub emit-none : t .inside ≡ false → (r : Pass2Step) → r ≡ Refused (refusalAt 21 (st .start) (st .end)) → Stepping bs os ws ms (emit ss s (viewPass2 bs os ws ms t)) r
+    emit-none i r q = rw q (stuck bs os ws ms _ (refusalAt 21 (st .start) (st .end)) (rw i (rw (← f .place) (sym (emit-outside ss s (viewObjBlocks (t .blocks) bs os ws ms))))))
 
     module _ (i : t .inside ≡ true) (ws′ ms′ : List ℕ) (l : length ws′ ≡ length ws) (m : length ms′ ≡ length ms) where
       abbrev here : ℕ
@@ -119,4 +121,4 @@ module _ (rs src : List ℕ) (n : ℕ) (ws ms : List ℕ) (st : Statement) (t : 
               let x = h .went u e in
               let w = words-at _ (x .is) in
               went bs os ws′ ms′ _ (withUsed t u) (still u (x .cells) w (x .upto) (x .wrote)) (same u (x .cells) w (x .upto) (x .wrote))
-          go (written.Refused c p x) e = stuck bs os ws′ ms′ _ c p x 0 0 (sym (emit-is (refuse c (span p x)) (words-at _ (h .stuck c p x e))))
+          go (written.Refused c p x) e = stuck bs os ws′ ms′ _ (refusalAt c p x) (sym (emit-is (refuse c (span p x)) (words-at _ (h .stuck c p x e))))

@@ -6,10 +6,11 @@ use mathlib.Core.List.{List}
 use Prim.Native.Nat.{ℕ, _+_, _-_, _*_, _≤_, _<_}
 use lib.ListN.{length, getD}
 use lib.Dec.{eqb}
-use Rattle.rules.specs.Base.{Outcome, ok, refuse2, span}
+use Rattle.rules.specs.Base.{Outcome, ok, span}
 use Rattle.rules.specs.Passes.{ObjBlock, objBlock, pass2State}
 use Rattle.rules.specs.Passes as rule
 use Rattle.rules.specs.Buffers.{headRow, sumOf, WordRow}
+use Rattle.base_refusals.specs.Refusals.{refusal, refusalAt, refusedBy}
 use Rattle.pass2_blocks.specs.Rows.{cellsAt, viewObjBlocks}
 use Rattle.pass2_blocks.specs.declared.Placing.{Placing}
 use Rattle.pass2_blocks.specs.declared.Placing.the-variants as placing
@@ -39,7 +40,7 @@ viewPass2 bs os ws ms t = pass2State (openOf (t .inside) (opened ws ms t)) (view
 -- what a step's answer stands for
 abbrev pub told : (bs os ws ms : List ℕ) → Pass2Step → Outcome rule.Pass2State
 told bs os ws ms (Went t) = ok (viewPass2 bs os ws ms t)
-told bs os ws ms (Refused n a e b d) = refuse2 n (span a e) (span b d)
+told bs os ws ms (Refused f) = refusedBy f
 
 -- what always holds: the closed blocks' words come first, each word stands beside its mark, and what is not in use is zero
 pub record Standing (bs os ws ms : List ℕ) (t : Pass2State) : Type 0 where
@@ -87,11 +88,11 @@ closing t b = record { inside = false; start = t .start; «orig_start» = t .«o
 
 abbrev pub stepOf : Pass2State → Written → Pass2Step
 stepOf t (written.Upto u) = Went (withUsed t u)
-stepOf t (written.Refused n a e) = Refused n a e 0 0
+stepOf t (written.Refused n a e) = Refused (refusalAt n a e)
 
 abbrev pub closeOf : Pass2State → Placing → Pass2Step
 closeOf t placing.Placed = Went (closing t (t .blocks + 1))
-closeOf t (placing.Overlaps a b c d) = Refused 28 a b c d
+closeOf t (placing.Overlaps a b c d) = Refused (refusal 28 a b c d)
 
 -- room for a statement's words
 pub record Emits (rs src : List ℕ) (n : ℕ) (ws ms : List ℕ) (st : Statement) (t : Pass2State) : Type 0 where

@@ -3,6 +3,7 @@ use base_casts::narrow;
 use base_casts::wide;
 use base_casts::word16;
 use base_casts::word32;
+use base_refusals::Refusal;
 use parse::Statement;
 use parse_rows::Op;
 use pass2_blocks::Placing;
@@ -13,6 +14,7 @@ ghost use Prim.Native.Nat.{ℕ, _+_, _<_};
 ghost use Rattle.rules.specs.Objects.{word};
 ghost use Rattle.rules.specs.Statements.{Stmt};
 ghost use Rattle.rules.specs.Passes.{emit, finish, written};
+ghost use Rattle.base_refusals.specs.Refusals.{refusalAt};
 ghost use Rattle.pass1_symbols.specs.Symbols.{symbols};
 ghost use Rattle.parse_meaning.specs.Reading.{Faithful};
 ghost use Rattle.pass2_words.specs.Writing.{Room, Wrote};
@@ -32,13 +34,7 @@ pub struct Pass2State {
 // The state after a step, or the refusal with its number and both spans.
 pub enum Pass2Step {
     Went(Pass2State),
-    Refused {
-        number: u16,
-        start: usize,
-        end: usize,
-        start2: usize,
-        end2: usize,
-    },
+    Refused(Refusal),
 }
 
 // The state with so many words in use.
@@ -88,15 +84,15 @@ fn shut(t: Pass2State, blocks: usize) -> Pass2State
 
 // A refusal at one place.
 pub fn refused(number: u16, start: usize, end: usize) -> Pass2Step
-    ensures { λ r. ⌜ r ≡ Pass2Step.Refused number start end 0 0 ⌝ }
+    ensures { λ r. ⌜ r ≡ Pass2Step.Refused (refusalAt number start end) ⌝ }
 {
-    Pass2Step::Refused {
+    Pass2Step::Refused(Refusal {
         number,
         start,
         end,
         start2: 0,
         end2: 0,
-    }
+    })
 }
 
 // What writing words answers, as a step from a state.
@@ -190,13 +186,13 @@ fn close_of(t: Pass2State, answer: Placing) -> Pass2Step
             first_end,
             second_start,
             second_end,
-        } => Pass2Step::Refused {
+        } => Pass2Step::Refused(Refusal {
             number: base_refusals::OVERLAPPING_BLOCKS,
             start: wide(first_start),
             end: wide(first_end),
             start2: wide(second_start),
             end2: wide(second_end),
-        },
+        }),
     }
 }
 

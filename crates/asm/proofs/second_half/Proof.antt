@@ -8,7 +8,7 @@ returns : tie.Need-returns
 returns c = went-leaves _ _ _ _ _ _ _ (c .before .before .before .before .before .before .before .before .before .before .before .before .before .before .before .before .write-object .ensures) _ (c .before .before .answer .given .1) _ (c .accepted .ensures)
 
 returns-2 : tie.Need-returns-2
-returns-2 c = stopped-leaves _ _ _ _ _ _ _ (c .before .before .before .before .before .before .before .before .before .before .before .before .before .before .before .before .write-object .ensures) _ _ _ _ _ (c .before .before .answer2 .given .1) _ (c .refusal .ensures)
+returns-2 c = stopped-leaves _ _ _ _ _ _ _ (c .before .before .before .before .before .before .before .before .before .before .before .before .before .before .before .before .write-object .ensures) _ (c .before .before .answer2 .given .1) _ (c .refusal .ensures)
 
 pub second-half-spec : {M : Type 1} → statement M
 second-half-spec =

@@ -42,7 +42,7 @@ loop-again-2 c =
 returns : tie.Need-returns Inv-loop μ-loop
 returns c =
     let at-step = c .before .before .before .before .before .before in
-    going-refused _ _ _ _ _ _ _ (at-step .before .before .before .before .before .before .before .before .before .loop .inv) _ (at-step .before .before .before .before .before .before .before .before .next-statement .ensures) _ (at-step .before .before .before .before .before .before .st .given .1) _ _ _ (at-step .step .ensures) _ _ _ _ _ (c .enum-told .given .1)
+    going-refused _ _ _ _ _ _ _ (at-step .before .before .before .before .before .before .before .before .before .loop .inv) _ (at-step .before .before .before .before .before .before .before .before .next-statement .ensures) _ (at-step .before .before .before .before .before .before .st .given .1) _ _ _ (at-step .step .ensures) _ (c .enum-told .given .1)
 
 returns-2 : tie.Need-returns-2 Inv-loop μ-loop
 returns-2 c = going-end _ _ _ _ _ _ _ (c .before .before .before .before .loop .inv) _ (c .before .before .before .next-statement .ensures) (c .before .enum-told2 .given .1) _ (c .finish .ensures)

@@ -13,7 +13,7 @@ returns c =
     step-went _ _ _ _ (at-answer .before .before .before .before .before .before .before .before .before .pre .0) _ _ _ _ (at-answer .before .before .before .before .define-labels .ensures) _ (at-answer .answer .given .1) _ _ _ (c .before .before .before .before .step-on .ensures)
 
 returns-2 : tie.Need-returns-2
-returns-2 c = step-refused _ _ _ _ (c .before .before .before .before .before .before .before .before .before .pre .0) _ _ _ _ (c .before .before .before .before .define-labels .ensures) _ _ _ _ _ (c .enum-told .given .1)
+returns-2 c = step-refused _ _ _ _ (c .before .before .before .before .before .before .before .before .before .pre .0) _ _ _ _ (c .before .before .before .before .define-labels .ensures) _ (c .enum-told .given .1)
 
 pub step-labelled-spec : {M : Type 1} → statement M
 step-labelled-spec =

@@ -20,7 +20,7 @@ returns c =
 returns-2 : tie.Need-returns-2
 returns-2 c =
     let at-direct = c .before .before .before .before .before .before in
-    on-refused _ _ _ _ _ (at-direct .before .before .before .before .before .before .pre .1) _ _ _ (at-direct .direct .ensures) _ _ _ _ _ (c .enum-told .given .1)
+    on-refused _ _ _ _ _ (at-direct .before .before .before .before .before .before .pre .1) _ _ _ (at-direct .direct .ensures) _ (c .enum-told .given .1)
 
 pub step-on-spec : {M : Type 1} → statement M
 step-on-spec =

@@ -33,7 +33,7 @@ loop-again c =
     going-on _ _ _ _ _ _ _ _ _ (at-label .before .loop .inv) _ (at-label .label-before .ensures) _ _ _ (c .before .before .before .before .before .before .before .before .from .given .1) _ _ (c .before .before .before .before .before .add-label .ensures) _ (c .before .answer .given .1) (search needs)
 
 returns : tie.Need-returns Inv-loop μ-loop
-returns c = going-refused _ _ _ _ _ _ _ _ _ (c .before .before .before .before .before .before .before .before .before .before .loop .inv) _ (c .before .before .before .before .before .before .before .before .before .label-before .ensures) _ _ _ (c .before .before .before .before .before .before .before .from .given .1) _ _ (c .before .before .before .before .add-label .ensures) _ _ _ _ _ (c .enum-told .given .1)
+returns c = going-refused _ _ _ _ _ _ _ _ _ (c .before .before .before .before .before .before .before .before .before .before .loop .inv) _ (c .before .before .before .before .before .before .before .before .before .label-before .ensures) _ _ _ (c .before .before .before .before .before .before .before .from .given .1) _ _ (c .before .before .before .before .add-label .ensures) _ (c .enum-told .given .1)
 
 returns-2 : tie.Need-returns-2 Inv-loop μ-loop
 returns-2 c = going-done _ _ _ _ _ _ _ _ _ (c .before .before .before .loop .inv) _ (c .before .before .label-before .ensures) (c .enum-told2 .given .1)

@@ -8,7 +8,7 @@ returns : tie.Need-returns
 returns c = step-held _ _ _ _ (c .before .before .answer .given .1) (c .with-labels .ensures)
 
 returns-2 : tie.Need-returns-2
-returns-2 c = step-refused _ _ _ _ _ _ _ (c .before .answer2 .given .1)
+returns-2 c = step-refused _ _ _ (c .before .answer2 .given .1)
 
 pub step-of-spec : {M : Type 1} → statement M
 step-of-spec =

@@ -51,7 +51,7 @@ returns : tie.Need-returns Inv-loop μ-loop
 returns c =
     let at-write-statement = c .before .before .before .before .before .before .before .before .before .before in
     let at-next-statement = at-write-statement .before .before .before .before .before .before .before .before .before .before in
-    going-refused _ _ _ _ _ _ _ _ _ _ _ _ _ (at-next-statement .before .loop .inv) _ (at-next-statement .next-statement .ensures) _ (at-write-statement .before .before .before .before .before .before .before .before .st .given .1) _ _ _ _ _ (at-write-statement .write-statement .ensures) _ _ _ _ _ (c .enum-told .given .1)
+    going-refused _ _ _ _ _ _ _ _ _ _ _ _ _ (at-next-statement .before .loop .inv) _ (at-next-statement .next-statement .ensures) _ (at-write-statement .before .before .before .before .before .before .before .before .st .given .1) _ _ _ _ _ (at-write-statement .write-statement .ensures) _ (c .enum-told .given .1)
 
 returns-2 : tie.Need-returns-2 Inv-loop μ-loop
 returns-2 c = going-end _ _ _ _ _ _ _ _ _ _ _ _ _ (c .before .before .before .loop .inv) _ (c .before .before .next-statement .ensures) (c .enum-told2 .given .1)
