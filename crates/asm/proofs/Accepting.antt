@@ -1,32 +1,21 @@
 -- What a call accepts is a good object in its one layout; a refusal leaves all zero; two answers that the contract allows are equal. Assumes nothing.
-use mathlib.Core.Path.{_≡_, refl}
-use mathlib.Core.Bool.{Bool, true, false}
+use mathlib.Core.Path.{_≡_}
 use mathlib.Core.List.{List}
 use Prim.Native.Nat.{ℕ}
-use Rattle.rules.specs.Base.{if_then_else_, ok, refused, Refusal, refuse, nowhere}
+use Rattle.rules.specs.Base.{ok, refused, Refusal}
 use Rattle.rules.specs.Objects.{Object, nothing}
-use Rattle.rules.specs.Buffers.{Buffers, short, lentWords, layout}
+use Rattle.rules.specs.Buffers.{Buffers, lentWords, layout}
 use Rattle.rules.specs.Passes.{assemble}
-use Rattle.rules.specs.Calls.{ofBytes}
-use Rattle.rules.proofs.Bools.{never}
 use Rattle.laws_accepted.proofs.Accepted.{accepted-good, accepted-fits}
 use Rattle.object_answer.specs.declared.Answer.{Answer}
 use Rattle.object_answer.specs.Meant.{Leaves, AcceptedCall}
-use Rattle.object_answer.proofs.Leaving.{accepted-left, left-once}
+use Rattle.object_answer.proofs.Leaving.{called-accepts, accepted-left, left-once}
 use Rattle.asm.specs.Call.{called, Assembled}
 
--- what the call accepts, the rule accepts, in buffers that are long enough
-called-accepts : (b : Buffers) (s : List ℕ) (o : Object) → called b s ≡ ok o → (short b ≡ false) × (assemble (lentWords (b .words) (b .marks)) s ≡ ok o)
-unfolding called ofBytes if_then_else_
-called-accepts b s o e = go (short b) refl e
-  where
-    go : (t : Bool) → short b ≡ t → (if t then refuse 42 nowhere else assemble (lentWords (b .words) (b .marks)) s) ≡ ok o → (short b ≡ false) × (assemble (lentWords (b .words) (b .marks)) s ≡ ok o)
-    go true q x = never cc
-    go false q x = (q, x)
-
 pub accepted-call : (b : Buffers) (s : List ℕ) (r : Answer) (b′ : Buffers) (o : Object) → Assembled b s r b′ → called b s ≡ ok o → AcceptedCall b r b′ o
+unfolding called
 accepted-call b s r b′ o h e =
-    let c = called-accepts b s o e in
+    let c = called-accepts b (assemble (lentWords (b .words) (b .marks)) s) o e in
     let g = accepted-good (lentWords (b .words) (b .marks)) s o (c .1) in
     let l : Leaves (ok o) b r b′ = rw e at h in
     accepted-left b r b′ o l g (c .0) (accepted-fits (lentWords (b .words) (b .marks)) s o (c .1))

@@ -2,26 +2,26 @@
 use Prim.Native.Nat.{ℕ, _+_, _-_, _*_, _≤_}
 use mathlib.Core.Path.{_≡_, refl, sym, _∙_, ap}
 use mathlib.Core.List.{List}
-use mathlib.Core.Option.{Option}
 use native.Mathlib.Omega.{arith}
 use lib.ListN.{length}
 use Rattle.rules.specs.Base.{Span, Outcome, ok, refused}
 use Rattle.rules.specs.Statements.{Stmt}
-use Rattle.rules.specs.Objects.{Object, Name, Counts, lookupLabel}
+use Rattle.rules.specs.Objects.{Object, Counts, lookupLabel}
 use Rattle.rules.specs.Words as R
-use Rattle.rules.specs.Buffers.{Buffers, view, Valid, zeros}
+use Rattle.rules.specs.Buffers.{Buffers, view, zeros}
 use Rattle.rules.specs.Answers.{Answer, answer, noCounts, numbers}
 use Rattle.lex_token.specs.declared.Next.{Next}
 use Rattle.lex_token.specs.declared.Lexeme.{Lexeme}
 use Rattle.lex_token.specs.Flat.{flatNext}
 use Rattle.parse.specs.Coded.{codedStatements, sourceStatements}
 use Rattle.parse.specs.declared.Statements.{Statements}
-use Rattle.rules.specs.Calls.{OfObject, too-short, bad-object, on-object}
+use Rattle.rules.specs.Calls.{OfObject}
 use Rattle.rules.proofs.Bools.{never}
 use Rattle.link.specs.Call.{Linked}
 use Rattle.object_answer.specs.Writes.{Writes}
 use Rattle.object_answer.specs.declared.Written.{Written}
-use Rattle.object_lookup.specs.Told.{said, found, Reversed}
+use Rattle.object_lookup.specs.Told.{said, Reversed}
+use Rattle.object_lookup.proofs.Once.{row-valid}
 use Rattle.object_lookup.specs.declared.Said.{Said}
 use Rattle.object_lookup.specs.declared.Found.{Found}
 use Rattle.object_lookup.specs.declared.Found.the-variants as find
@@ -93,22 +93,13 @@ module _ {r : Reply} {out : List ℕ} (p : out ≡ row r) where
     rev-lookup-put {f = f} q e = record { found = f; reversed = q; told = put e p }
 
 -- a row that is found lies in the table
-abbrev tag : Outcome (Option Name) → ℕ
-tag (ok o) = 0
-tag (refused r) = r .number
-
-valid-of : {c : Counts} {b : Buffers} {rule : Outcome (Option Name)} (k : ℕ) → OfObject c b rule (found (b .labels) (b .names) (find.Row k)) → Valid c b
-valid-of k (too-short p e) = absurd (let z = ap tag e in omega arith)
-valid-of k (bad-object p n e) = absurd (let z = ap tag e in omega arith)
-valid-of k (on-object p v e) = v
-
 pub row-in : {c : Counts} {b : Buffers} {a : ℕ} (f : Found) → Reversed c b a f → RowIn (length (b .labels)) f
 row-in {c} {b} {a} f q = record { row = go f q }
   where
     go : (f : Found) → Reversed c b a f → (k : ℕ) → f ≡ find.Row k → k * 4 + 4 ≤ length (b .labels)
     go (find.Row j) q k e =
         let z : j ≡ k = cc in
-        let room = valid-of j (q .name) .labels .room in
+        let room = row-valid j (q .name) .labels .room in
         let l = q .row j refl in
         omega arith
     go find.Nothing q k e = never cc

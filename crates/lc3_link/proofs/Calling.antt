@@ -1,36 +1,33 @@
 -- Loading and linking in buffers of full size: what each call makes, and the name that stands in the way. Assumes nothing.
-use Prim.Native.Nat.{ℕ, zero, suc, _+_, _≤_, _<_}
+use Prim.Native.Nat.{ℕ, zero, suc, _+_, _<_}
 use mathlib.Core.Path.{_≡_, refl, sym, _∙_, ap}
-use mathlib.Core.Logic.{inl, inr}
 use mathlib.Core.Bool.{Bool, true, false, _||_, not}
 use mathlib.Core.List.{List, [], _∷_}
 use native.Mathlib.Omega.{arith}
-use native.Mathlib.Decide.{decLe}
 use borrow.Author.Tests.{eqb-true}
 use lib.Dec.{eqb}
 use lib.ListN.{length}
-use Rattle.rules.specs.Base.{if_then_else_, Outcome, ok, refused, Refusal, refuse, require, _>>_, nowhere, offsetAt, span}
+use Rattle.rules.specs.Base.{if_then_else_, Outcome, ok, refused, Refusal, require, _>>_, nowhere, span}
 use Rattle.rules.specs.Capacities.{wordRoom}
 use Rattle.rules.specs.Answers.{answer}
 use Rattle.rules.specs.Tables.{Table, look, nameOrder}
-use Rattle.rules.specs.Objects.{Lab, Name, Object, Counts, countsOf}
-use Rattle.rules.specs.Buffers.{Buffers, short, lentWords, view, tab, labelRow, nameRow, viewLabels, Valid, zeros}
+use Rattle.rules.specs.Objects.{Lab, Name, Object, Counts}
+use Rattle.rules.specs.Buffers.{Buffers, short, view, tab, labelRow, nameRow, viewLabels, Valid, zeros}
 use Rattle.rules.specs.Calls.{ofBytes, on-object}
 use Rattle.rules.specs.Linking.{link, agree, differ}
-use Rattle.rules.specs.Stored.{check, load}
+use Rattle.rules.specs.Stored.{load}
 use Rattle.rules.proofs.Bools.{never}
 use Rattle.rules.proofs.Calls.{answered-once}
 use Rattle.rules.proofs.Sound.{valid-counts}
 use Rattle.laws_link.proofs.Answers as Answers
-use Rattle.laws_stored.specs.Beginnings.{AreBytes, ObjectOrFifty}
-use Rattle.laws_stored.proofs.Checking.{check-answers, load-fifty, load-whole, load-no-room}
+use Rattle.laws_stored.specs.Beginnings.{AreBytes}
 use Rattle.object_answer.specs.declared.Answer.{Answer}
 use Rattle.object_answer.specs.Meant.{Leaves}
 use Rattle.link.specs.Call.{Outcomes, Linked}
 use Rattle.link.proofs.Accepting.{call-leaves, good-call, by-number}
 use Rattle.stored.proofs.Made.{lent, lending-long, lent-words, Makes}
 use Rattle.stored_load.specs.Call.{called, Loaded}
-use Rattle.stored_load.proofs.Accepting.{accepted-call}
+use Rattle.stored_load.proofs.Accepting.{accepted-call, load-numbers}
 use Rattle.lc3_link.specs.Linked.{nameIn, inTheWay, Held, blamedRow}
 
 lent-long : short lent ≡ false
@@ -43,24 +40,7 @@ refused-number o out a b q l e =
     let t : Leaves (refused q) out a b = rw e at l in
     (ap (λ r. r .number) (t .answer), ap (λ r. r .first .start) (t .answer))
 
--- LOADING refuses with 50 or 41
-load-numbers : (room : ℕ) (b : List ℕ) (q : Refusal) → load room b ≡ refused q → 0 < q .number
-load-numbers room b q e = go (check-answers b)
-  where
-    whole : (p : Object) → check b ≡ ok p → Dec (countsOf p .words ≤ room) → 0 < q .number
-    whole p c (yes h) = let u : ok p ≡ refused q = sym (load-whole room b p c h) ∙ e in never cc
-    whole p c (no h) =
-        let u : refuse 41 nowhere ≡ refused q = sym (load-no-room room b p c (omega arith)) ∙ e in
-        let k : q .number ≡ 41 = cc in
-        omega arith
-
-    go : ObjectOrFifty b (check b) → 0 < q .number
-    go (inl (p, c)) = whole p c (decLe (countsOf p .words) room)
-    go (inr (i, l, c)) =
-        let u : refuse 50 (offsetAt i) ≡ refused q = sym (load-fifty room b i c) ∙ e in
-        let k : q .number ≡ 50 = cc in
-        omega arith
-
+-- LOADING
 module _ (s : List ℕ) (v : AreBytes s) where
   called-is : called lent s ≡ load wordRoom s
   unfolding called ofBytes if_then_else_
@@ -73,7 +53,7 @@ module _ (s : List ℕ) (v : AreBytes s) where
         left = m;
         full = lent-long;
         good = λ x e. accepted-call lent s a b x v l (called-is ∙ e);
-        numbered = λ q e z. omega (arith, z, refused-number (load wordRoom s) lent a b q m e .0, load-numbers wordRoom s q e);
+        numbered = λ q e z. omega (arith, z, refused-number (load wordRoom s) lent a b q m e .0, load-numbers wordRoom s q e .0);
       }
 
 -- LINKING

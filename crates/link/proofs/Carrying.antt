@@ -7,9 +7,9 @@ use Prim.Native.Nat.{ℕ, _≤_}
 use native.Mathlib.Omega.{arith}
 use native.Mathlib.Decide.{ℕ-discrete}
 use lib.Dec.{ltb}
-use lib.ListN.{length, getD, length-append, length-replicate}
+use lib.ListN.{length, getD, length-replicate}
 use lib.Seq.{ext-getD}
-use borrow.Author.Tests.{ltb-false, le-ltb}
+use borrow.Author.Tests.{ltb-false}
 use Rattle.rules.specs.Base.{if_then_else_, Outcome, ok, refused, Refusal}
 use Rattle.rules.specs.Capacities.{wordRoom}
 use Rattle.rules.specs.Answers as rule
@@ -20,7 +20,6 @@ use Rattle.rules.specs.Linking.{link}
 use Rattle.rules.proofs.Rows.{getD-lay}
 use Rattle.rules.proofs.Laid.{view-layout}
 use Rattle.rules.proofs.Sound.{valid-good, valid-counts}
-use Rattle.rules.proofs.Fits.{long}
 use Rattle.rules.proofs.Calls.{answered-once}
 use Rattle.laws_link.specs.Ways.{Way, leaf, node, entries, run, Lends, AllGood, Room, OneSame, Refused}
 use Rattle.laws_link.specs.Joins.{TwoClash, Joins}
@@ -29,24 +28,10 @@ use Rattle.laws_link.proofs.Meanings.{first-refused, second-refused, both-given
 use Rattle.laws_link.proofs.Demand as Demand
 use Rattle.object_answer.specs.declared.Answer.{Answer}
 use Rattle.object_answer.specs.Meant.{meant, AcceptedCall}
+use Rattle.object_answer.proofs.Full.{layout-full}
 use Rattle.link.specs.Call.{Outcomes}
 use Rattle.link.specs.CarriedOut.{EntriesLent, Lendable, Call, Ends, stands, stopped, told, CarriedOut, entry, first-stops, second-stops, accepts, refuses, Tells, Alike, Stopped, SameContents, SameSizes}
 use Rattle.link.proofs.Accepting.{call-leaves, good-call, by-number, by-other-number}
-
--- BUFFERS OF FULL SIZE stay so when an object is written into them
-
-lay-long : (l : List ℕ) (len n : ℕ) → n ≤ len → ltb (length (lay l len)) n ≡ false
-lay-long l len n h = le-ltb (length (lay l len)) n (rw (length-append, length-replicate) (omega arith))
-
-layout-full : (o : Object) (b : Buffers) → short b ≡ false → short (layout o b) ≡ false
-unfolding short layBlocks layLabels layRelocs layNames
-layout-full o b e =
-    let L = long b e in
-    let p = lay-long (headCells (heads (o .blocks))) (length (b .blocks)) 128 (L .blocks) in
-    let q = lay-long (labelCells 0 (o .labels)) (length (b .labels)) 4096 (L .labels) in
-    let r = lay-long (relocCells (o .labels) (o .relocs)) (length (b .relocs)) 2048 (L .relocs) in
-    let s = lay-long (nameBytes (o .labels)) (length (b .names)) 65536 (L .names) in
-    rw (p, q, r, s)
 
 -- ONE CALL
 

@@ -4,14 +4,13 @@ use mathlib.Core.Path.{_≡_, refl, sym, _∙_, ap, subst}
 use mathlib.Core.Bool.{Bool, true, false}
 use mathlib.Core.List.{List, [], _∷_, _++_, append-nil}
 use native.Mathlib.Omega.{arith}
-use borrow.Author.Tests.{eq-eqb, ne-eqb, le-leb, lt-leb, le-ltb}
-use lib.Dec.{ltb}
+use borrow.Author.Tests.{eq-eqb, ne-eqb, le-leb, lt-leb}
 use lib.ListN.{length, length-append, length-replicate}
 use Rattle.rules.specs.Base.{if_then_else_, Outcome, ok, refused, refuse, Refusal, nowhere}
 use Rattle.rules.specs.Capacities.{programSourceRoom, programWordRoom}
 use Rattle.rules.specs.Answers.{answer}
-use Rattle.rules.specs.Objects.{Object, Counts, countsOf, heads, flat}
-use Rattle.rules.specs.Buffers.{Buffers, six, short, least, lentWords, Valid, view, layout, zeros, lay, headCells, labelCells, relocCells, nameBytes, layBlocks, layLabels, layRelocs, layNames}
+use Rattle.rules.specs.Objects.{Object, Counts, countsOf, flat}
+use Rattle.rules.specs.Buffers.{Buffers, six, short, least, lentWords, Valid, view, zeros}
 use Rattle.rules.specs.Calls.{ofBytes}
 use Rattle.rules.specs.Passes.{assemble}
 use Rattle.rules.specs.Listing.{listing, printed, assembled, listingProgram}
@@ -24,6 +23,7 @@ use Rattle.laws_accepted.proofs.Accepted.{accepted-fits}
 use Rattle.object.specs.Meaning.{counts}
 use Rattle.object_answer.specs.declared.Answer.{Answer}
 use Rattle.object_answer.specs.Meant.{countsIn, Leaves, AcceptedCall}
+use Rattle.object_answer.proofs.Full.{long-enough, layout-full}
 use Rattle.asm.specs.Call.{called, Assembled}
 use Rattle.asm.proofs.Accepting.{accepted-call}
 use Rattle.list_print.specs.Program.{Wrote, follows, tells, Tellable}
@@ -33,30 +33,12 @@ use Rattle.list_print.proofs.Most.{listing-most}
 abbrev pub lent : Buffers
 lent = six (zeros 128) (zeros 32768) (zeros 32768) (zeros 4096) (zeros 2048) (zeros 65536)
 
-long-enough : (b : Buffers) → length (b .blocks) ≡ 128 → length (b .labels) ≡ 4096 → length (b .relocs) ≡ 2048 → length (b .names) ≡ 65536 → short b ≡ false
-unfolding short
-long-enough b p q r s = rw (p, q, r, s) refl
-
 pub lent-long : short lent ≡ false
 lent-long = long-enough lent (length-replicate {A = ℕ} 128 0) (length-replicate {A = ℕ} 4096 0) (length-replicate {A = ℕ} 2048 0) (length-replicate {A = ℕ} 65536 0)
 
 pub lent-words : lentWords (lent .words) (lent .marks) ≡ programWordRoom
 unfolding lentWords least if_then_else_
 lent-words = rw (length-replicate {A = ℕ} 32768 0) refl
-
--- buffers of full size stay so when an object is written into them
-lay-long : (l : List ℕ) (len n : ℕ) → n ≤ len → ltb (length (lay l len)) n ≡ false
-lay-long l len n h = le-ltb (length (lay l len)) n (rw (length-append, length-replicate) (omega arith))
-
-layout-long : (o : Object) (b : Buffers) → short b ≡ false → short (layout o b) ≡ false
-unfolding short layBlocks layLabels layRelocs layNames
-layout-long o b e =
-    let L = long b e in
-    let p = lay-long (headCells (heads (o .blocks))) (length (b .blocks)) 128 (L .blocks) in
-    let q = lay-long (labelCells 0 (o .labels)) (length (b .labels)) 4096 (L .labels) in
-    let r = lay-long (relocCells (o .labels) (o .relocs)) (length (b .relocs)) 2048 (L .relocs) in
-    let s = lay-long (nameBytes (o .labels)) (length (b .names)) 65536 (L .names) in
-    rw (p, q, r, s)
 
 -- A CALL, of whatever outcome: what it leaves in these buffers tells the outcome, if what is accepted is good and fits, and what is refused has a number of the table
 pub record Telling (o : Outcome Object) (r : Answer) (b : Buffers) : Type 0 where
@@ -83,7 +65,7 @@ module _ (o : Outcome Object) (r : Answer) (b : Buffers) (l : Telling o r b) (le
           low = omega (arith, n);
           line = omega arith;
           valid = λ z. subst (λ (d : Counts). Valid d b) (sym k) (c .valid);
-          long = λ z. rw (c .laid) (layout-long x lent lent-long);
+          long = λ z. rw (c .laid) (layout-full x lent lent-long);
           fits = λ z. omega (arith, ap (λ (o : Object). length (listing o)) v, m, h);
         };
         same = rw (eq-eqb (r .number) 0 n) (ap listing v);

@@ -1,11 +1,13 @@
 -- What a call that makes an object answers and leaves: on acceptance a good object in its one layout, on refusal all zero, and one answer only. Assumes nothing.
-use mathlib.Core.Path.{_≡_, sym, _∙_, ap}
-use mathlib.Core.Bool.{false}
+use mathlib.Core.Path.{_≡_, refl, sym, _∙_, ap}
+use mathlib.Core.Bool.{Bool, true, false}
 use Prim.Native.Nat.{ℕ, _≤_}
-use Rattle.rules.specs.Base.{Outcome, ok, refuse2, span}
+use Rattle.rules.specs.Base.{if_then_else_, Outcome, ok, refuse, refuse2, nowhere, span}
 use Rattle.rules.specs.Answers.{answer}
 use Rattle.rules.specs.Objects.{Object, nothing, countsOf, Good}
 use Rattle.rules.specs.Buffers.{Buffers, short, lentWords, layout}
+use Rattle.rules.specs.Calls.{ofBytes}
+use Rattle.rules.proofs.Bools.{never}
 use Rattle.rules.proofs.Fits.{layout-valid}
 use Rattle.object_answer.specs.declared.Answer.{Answer}
 use Rattle.object_answer.specs.Meant.{meant, refusing, Leaves, AcceptedCall}
@@ -17,6 +19,15 @@ leaves-refused n a e b f p q h r k = record { answer = ap meant k; buffers = h }
 pub accepted-left : (b : Buffers) (r : Answer) (b′ : Buffers) (o : Object) → Leaves (ok o) b r b′ → Good o → short b ≡ false → countsOf o .words ≤ lentWords (b .words) (b .marks) → AcceptedCall b r b′ o
 unfolding answer
 accepted-left b r b′ o l g s w = record { good = g; laid = l .buffers; counts = l .answer; valid = rw (l .buffers) (layout-valid o b g s w) }
+
+-- what a call that is lent bytes accepts, its rule accepts, in buffers that are long enough
+pub called-accepts : {A : Type 0} (b : Buffers) (rule : Outcome A) (o : A) → ofBytes b rule ≡ ok o → (short b ≡ false) × (rule ≡ ok o)
+unfolding ofBytes if_then_else_
+called-accepts b rule o e = go (short b) refl e
+  where
+    go : (t : Bool) → short b ≡ t → (if t then refuse 42 nowhere else rule) ≡ ok o → (short b ≡ false) × (rule ≡ ok o)
+    go true q x = never cc
+    go false q x = (q, x)
 
 -- one answer
 pub meant-once : (r t : Answer) → meant r ≡ meant t → r ≡ t

@@ -1,21 +1,17 @@
 -- A call that makes an object in buffers of full size, and what it has made stored. Assumes nothing.
-use Prim.Native.Nat.{ℕ, _≤_}
+use Prim.Native.Nat.{ℕ}
 use mathlib.Core.Path.{_≡_, refl, sym, _∙_, ap, subst}
 use mathlib.Core.Bool.{false}
 use mathlib.Core.List.{List}
-use native.Mathlib.Omega.{arith}
-use borrow.Author.Tests.{le-ltb}
-use lib.Dec.{ltb}
-use lib.ListN.{length, length-append, length-replicate}
-use Rattle.rules.specs.Base.{if_then_else_, Outcome, ok, refused, Refusal, _>>=_, refuse, nowhere}
+use lib.ListN.{length-replicate}
+use Rattle.rules.specs.Base.{if_then_else_, Outcome, ok, refused, Refusal, _>>=_}
 use Rattle.rules.specs.Capacities.{wordRoom}
 use Rattle.rules.specs.Answers.{answer}
-use Rattle.rules.specs.Objects.{Object, Counts, countsOf, heads, Good}
-use Rattle.rules.specs.Buffers.{Buffers, short, Valid, view, layout, lay, zeros, headCells, labelCells, relocCells, nameBytes, layBlocks, layLabels, layRelocs, layNames, six, least, lentWords}
+use Rattle.rules.specs.Objects.{Object, Counts, countsOf, Good}
+use Rattle.rules.specs.Buffers.{Buffers, short, Valid, view, zeros, six, least, lentWords}
 use Rattle.rules.specs.Calls.{OfObject, too-short, bad-object, on-object}
 use Rattle.rules.specs.Stored.{store}
 use Rattle.rules.proofs.Bools.{never}
-use Rattle.rules.proofs.Fits.{long}
 use Rattle.rules.proofs.Laid.{view-layout}
 use Rattle.rules.proofs.Rows.{lay-nil}
 use Rattle.object.specs.Meaning.{counts}
@@ -25,6 +21,7 @@ use Rattle.object_answer.specs.declared.Written.{Written}
 use Rattle.object_answer.specs.declared.Written.the-variants.{Refused}
 use Rattle.object_answer.specs.Meant.{countsIn, Leaves, AcceptedCall}
 use Rattle.object_answer.specs.Writes.{Whole}
+use Rattle.object_answer.proofs.Full.{long-enough, layout-full}
 use Rattle.stored.specs.Call.{Called, MadeStored}
 
 -- an object; a refusal, and zeros
@@ -34,27 +31,9 @@ object-stored a b len r bytes z c e h = record { object = λ n. subst (λ (d : c
 pub handed-on : (a : Answer) (b : Buffers) (len : ℕ) (bytes : List ℕ) → (a .number ≡ 0 → ⊥) → bytes ≡ zeros len → MadeStored a b len (Refused (a .number)) bytes
 handed-on a b len bytes n z = record { object = λ e. absurd (n e); refusal = λ m. record { answer = refl; buffer = z ∙ sym (lay-nil len) } }
 
--- buffers of full size stay so when an object is written into them
-lay-long : (l : List ℕ) (len n : ℕ) → n ≤ len → ltb (length (lay l len)) n ≡ false
-lay-long l len n h = le-ltb (length (lay l len)) n (rw (length-append, length-replicate) (omega arith))
-
-layout-long : (o : Object) (b : Buffers) → short b ≡ false → short (layout o b) ≡ false
-unfolding short layBlocks layLabels layRelocs layNames
-layout-long o b e =
-    let L = long b e in
-    let p = lay-long (headCells (heads (o .blocks))) (length (b .blocks)) 128 (L .blocks) in
-    let q = lay-long (labelCells 0 (o .labels)) (length (b .labels)) 4096 (L .labels) in
-    let r = lay-long (relocCells (o .labels) (o .relocs)) (length (b .relocs)) 2048 (L .relocs) in
-    let s = lay-long (nameBytes (o .labels)) (length (b .names)) 65536 (L .names) in
-    rw (p, q, r, s)
-
 -- BUFFERS OF FULL SIZE: tables all zero, and these words and marks
 abbrev pub lending : List ℕ → List ℕ → Buffers
 lending ws ms = six (zeros 128) ws ms (zeros 4096) (zeros 2048) (zeros 65536)
-
-long-enough : (b : Buffers) → length (b .blocks) ≡ 128 → length (b .labels) ≡ 4096 → length (b .relocs) ≡ 2048 → length (b .names) ≡ 65536 → short b ≡ false
-unfolding short
-long-enough b p q r s = rw (p, q, r, s) refl
 
 pub lending-long : (ws ms : List ℕ) → short (lending ws ms) ≡ false
 lending-long ws ms = long-enough (lending ws ms) (length-replicate {A = ℕ} 128 0) (length-replicate {A = ℕ} 4096 0) (length-replicate {A = ℕ} 2048 0) (length-replicate {A = ℕ} 65536 0)
@@ -101,7 +80,7 @@ module _ {o : Outcome Object} {out : Buffers} {a : Answer} {b : Buffers} (m : Ma
       let v : view (counts (countsIn a)) b ≡ x = ap (λ (d : Counts). view d b) k ∙ (ap (λ (d : Buffers). view (countsOf x) d) (c .laid) ∙ view-layout x out (c .good)) in (
         n,
         record {
-          full = rw (c .laid) (layout-long x out (m .full));
+          full = rw (c .laid) (layout-full x out (m .full));
           valid = subst (λ (d : Counts). Valid d b) (sym k) (c .valid);
           is = v;
           good = c .good;

@@ -1,48 +1,19 @@
 -- What loading leaves in the listing program's buffers tells its outcome. Assumes nothing.
-use Prim.Native.Nat.{ℕ, _≤_, _<_}
-use mathlib.Core.Path.{_≡_, refl, sym, _∙_, ap}
-use mathlib.Core.Logic.{inl, inr}
+use Prim.Native.Nat.{ℕ, _≤_}
+use mathlib.Core.Path.{_≡_, refl, _∙_}
 use mathlib.Core.List.{List}
-use native.Mathlib.Omega.{arith}
-use native.Mathlib.Decide.{decLe}
-use lib.ListN.{length}
-use Rattle.rules.specs.Base.{if_then_else_, ok, refused, refuse, Refusal, nowhere, offsetAt}
+use Rattle.rules.specs.Base.{if_then_else_}
 use Rattle.rules.specs.Capacities.{programWordRoom}
-use Rattle.rules.specs.Objects.{Object, countsOf, flat}
 use Rattle.rules.specs.Buffers.{Buffers}
 use Rattle.rules.specs.Calls.{ofBytes}
-use Rattle.rules.specs.Stored.{check, load}
-use Rattle.rules.proofs.Bools.{never}
-use Rattle.laws_numbers.proofs.Bounds.{Within}
-use Rattle.laws_stored.specs.Beginnings.{AreBytes, ObjectOrFifty}
-use Rattle.laws_stored.proofs.Checking.{check-answers, load-fifty, load-whole, load-no-room}
+use Rattle.rules.specs.Stored.{load}
+use Rattle.laws_stored.specs.Beginnings.{AreBytes}
 use Rattle.object_answer.specs.declared.Answer.{Answer}
 use Rattle.stored_load.specs.Call.{called, Loaded}
-use Rattle.stored_load.proofs.Accepting.{accepted-call, load-accepts}
+use Rattle.stored_load.proofs.Accepting.{accepted-call, load-accepts, load-numbers}
 use Rattle.list_print.specs.Program.{Wrote, tells, Tellable}
 use Rattle.list_print.proofs.Program.{lent, lent-long, lent-words, Telling, telling-tellable, telling-wrote}
 use Rattle.stored_list.specs.Stored.{storedListing}
-
--- loading refuses with 50 or 41
-refused-within : (room : ℕ) (b : List ℕ) (q : Refusal) → load room b ≡ refused q → Within (q .number)
-refused-within room b q e = go (check-answers b)
-  where
-    with′ : (n : ℕ) → 0 < n → n < 100 → q .number ≡ n → Within (q .number)
-    with′ n s f k = record { some = omega (arith, s, k); few = omega (arith, f, k) }
-
-    whole : (p : Object) → check b ≡ ok p → Dec (countsOf p .words ≤ room) → Within (q .number)
-    whole p c (yes h) = let u : ok p ≡ refused q = sym (load-whole room b p c h) ∙ e in never cc
-    whole p c (no h) =
-        let u : refuse 41 nowhere ≡ refused q = sym (load-no-room room b p c (omega arith)) ∙ e in
-        let k : q .number ≡ 41 = cc in
-        with′ 41 (omega arith) (omega arith) k
-
-    go : ObjectOrFifty b (check b) → Within (q .number)
-    go (inl (p, c)) = whole p c (decLe (countsOf p .words) room)
-    go (inr (i, l, c)) =
-        let u : refuse 50 (offsetAt i) ≡ refused q = sym (load-fifty room b i c) ∙ e in
-        let k : q .number ≡ 50 = cc in
-        with′ 50 (omega arith) (omega arith) k
 
 module _ (s : List ℕ) (v : AreBytes s) where
   called-is : called lent s ≡ load programWordRoom s
@@ -56,7 +27,7 @@ module _ (s : List ℕ) (v : AreBytes s) where
           left = rw called-is at l;
           good = λ x e. accepted-call lent s r b x v l (called-is ∙ e);
           fits = λ x e. load-accepts programWordRoom s x e .fits;
-          known = λ q e. refused-within programWordRoom s q e;
+          known = λ q e. (let w = load-numbers programWordRoom s q e in record { some = w .0; few = w .1 });
         }
 
     pub load-tellable : Tellable r b len

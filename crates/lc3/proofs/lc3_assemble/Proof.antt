@@ -17,4 +17,7 @@ lc3-assemble-spec =
     (λ c. search needs)
     (λ c. search needs)
     (λ c. search needs)
-    (λ c. (assembled-put (c .put-answer .ensures) (c .before .before .before .before .before .before .before .before .before .before .before .before .before .before .before .assemble .ensures) (c .before .told-answer .ensures), c .before .before .before .before .before .before .before .before .before .before .before .before .before .before .before .assemble .ensures .buffers)))
+    (λ c.
+    let at-told-answer = c .before in
+    let at-assemble = at-told-answer .before .before .before .before .before .before .before .before .before .before .before .before .before .before in
+    (assembled-put (c .put-answer .ensures) (at-assemble .assemble .ensures) (at-told-answer .told-answer .ensures), at-assemble .assemble .ensures .buffers)))

@@ -17,4 +17,7 @@ lc3-load-spec =
     (λ c. search needs)
     (λ c. search needs)
     (λ c. search needs)
-    (λ c. (assembled-put (c .put-answer .ensures) (c .before .before .before .before .before .before .before .before .before .before .before .before .before .before .before .load .ensures) (c .before .told-answer .ensures), c .before .before .before .before .before .before .before .before .before .before .before .before .before .before .before .load .ensures .buffers)))
+    (λ c.
+    let at-told-answer = c .before in
+    let at-load = at-told-answer .before .before .before .before .before .before .before .before .before .before .before .before .before .before in
+    (assembled-put (c .put-answer .ensures) (at-load .load .ensures) (at-told-answer .told-answer .ensures), at-load .load .ensures .buffers)))

@@ -5,7 +5,10 @@ use Rattle.list_print.proofs.write_answer.Statement.{statement}
 use Rattle.list_print.proofs.write_answer.Tie as tie
 
 write-object-requires : tie.Need-write-object-requires
-write-object-requires c κs = (answer-valid _ _ _ (c .before .before .if1 .taken) _ (c .before .counts-of .ensures) (c .before .before .before .before .before .before .before .before .before .before .before .pre), (c .before .before .before .before .before .before .before .before .before .before .before .pre .long (c .before .before .if1 .taken), answer-fits _ _ _ (c .before .before .if1 .taken) _ (c .before .counts-of .ensures) (c .before .before .before .before .before .before .before .before .before .before .before .pre)))
+write-object-requires c κs =
+    let at-if1 = c .before .before in
+    let start = at-if1 .before .before .before .before .before .before .before .before .before in
+    (answer-valid _ _ _ (at-if1 .if1 .taken) _ (c .before .counts-of .ensures) (start .pre), (start .pre .long (at-if1 .if1 .taken), answer-fits _ _ _ (at-if1 .if1 .taken) _ (c .before .counts-of .ensures) (start .pre)))
 
 returns : tie.Need-returns
 returns c = tells-object _ _ _ (c .before .before .before .before .before .if1 .taken) _ (c .before .before .before .before .counts-of .ensures) _ _ (c .before .before .write-object .ensures)

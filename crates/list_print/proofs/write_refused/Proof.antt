@@ -5,10 +5,16 @@ use Rattle.list_print.proofs.write_refused.Statement.{statement}
 use Rattle.list_print.proofs.write_refused.Tie as tie
 
 put-text-requires-2 : tie.Need-put-text-requires-2
-put-text-requires-2 c κs = feed-fits (c .before .before .before .before .before .before .before .before .before .before .before .before .before .before .before .before .args .text .now) _ _ (c .before .before .before .before .before .before .before .before .before .before .before .before .before .zero-u8 .ensures) (c .before .before .before .before .before .before .before .before .before .before .before .before .before .before .before .before .pre .1) _ _ (c .before .before .before .before .before .before .before .before .put-text .ensures) _ _ (c .before .before .before .before .put-decimal .ensures)
+put-text-requires-2 c κs =
+    let at-put-text = c .before .before .before .before .before .before .before .before in
+    let start = at-put-text .before .before .before .before .before .before .before .before in
+    feed-fits (start .args .text .now) _ _ (at-put-text .before .before .before .before .before .zero-u8 .ensures) (start .pre .1) _ _ (at-put-text .put-text .ensures) _ _ (c .before .before .before .before .put-decimal .ensures)
 
 returns : tie.Need-returns
-returns c = line-wrote (c .before .before .before .before .before .before .before .before .before .before .before .before .before .before .before .before .before .before .before .args .text .now) _ _ (c .before .before .before .before .before .before .before .before .before .before .before .before .before .before .before .before .zero-u8 .ensures) (c .before .before .before .before .before .before .before .before .before .before .before .before .before .before .before .before .before .before .before .pre .1) _ _ (c .before .before .before .before .before .before .before .before .before .before .before .put-text .ensures) _ _ (c .before .before .before .before .before .before .before .put-decimal .ensures) _ _ (c .before .before .put-text2 .ensures)
+returns c =
+    let at-put-decimal = c .before .before .before .before .before .before .before in
+    let at-zero-u8 = at-put-decimal .before .before .before .before .before .before .before .before .before in
+    line-wrote (at-zero-u8 .before .before .before .args .text .now) _ _ (at-zero-u8 .zero-u8 .ensures) (at-zero-u8 .before .before .before .pre .1) _ _ (at-put-decimal .before .before .before .before .put-text .ensures) _ _ (at-put-decimal .put-decimal .ensures) _ _ (c .before .before .put-text2 .ensures)
 
 pub write-refused-spec : {M : Type 1} → statement M
 write-refused-spec =

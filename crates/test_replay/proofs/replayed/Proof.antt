@@ -33,4 +33,7 @@ replayed-spec =
     (λ c. search needs)
     (λ c. search needs)
     (λ c κs. search needs)
-    (λ c. replays-cut (c .before .before .before .before .before .before .before .before .before .before .before .before .before .before .before .before .before .before .before .before .before .args .lacking) (c .before .before .before .before .before .before .before .before .before .before .before .before .before .before .before .before .before .before .left .ensures) (c .before .before .before .before .before .before .before .before .before .before .before .before .before .before .before .before .before .left2 .ensures) (c .before .before .before .before .before .before .before .before .before .before .before .before .before .before .before .before .left3 .ensures) (c .before .before .before .before .before .before .before .before .before .before .before .before .before .before .before .left4 .ensures) (c .before .before .before .before .before .before .before .before .before .before .before .before .before .before .left5 .ensures) (c .before .before .before .before .before .before .before .before .before .before .before .before .before .left6 .ensures) (c .before .before .before .before .before .before .answered .ensures)))
+    (λ c.
+    let at-answered = c .before .before .before .before .before .before in
+    let at-left3 = at-answered .before .before .before .before .before .before .before .before .before .before in
+    replays-cut (at-left3 .before .before .before .before .before .args .lacking) (at-left3 .before .before .left .ensures) (at-left3 .before .left2 .ensures) (at-left3 .left3 .ensures) (at-answered .before .before .before .before .before .before .before .before .before .left4 .ensures) (at-answered .before .before .before .before .before .before .before .before .left5 .ensures) (at-answered .before .before .before .before .before .before .before .left6 .ensures) (at-answered .answered .ensures)))
