@@ -35,15 +35,25 @@ fn check_bytes(path: &[u8], bytes: &[u8], silent: bool) -> u8 {
     telling::tell_unloaded(STDERR_FILENO, path, bytes, answer)
 }
 
+// A file, read into this buffer.
+fn check_read(path: &[u8], bytes: &mut [u8; FILE_BYTES], silent: bool) -> u8 {
+    match named::read_stored(path, bytes) {
+        Held::Bytes(n) => check_bytes(path, front(bytes, n), silent),
+        Held::Unread => telling::FAILED,
+    }
+}
+
+// A file.
+fn check_file(path: &[u8], silent: bool) -> u8 {
+    let mut bytes = [0u8; FILE_BYTES];
+    check_read(path, &mut bytes, silent)
+}
+
 // The file that an argument names.
 pub fn check_argument(i: usize, silent: bool) -> u8 {
     let mut path = [0u8; PATH_BYTES];
     let size = os::arg(i, &mut path);
-    let mut bytes = [0u8; FILE_BYTES];
-    match named::read_stored(&path[..size], &mut bytes) {
-        Held::Bytes(n) => check_bytes(&path[..size], front(&bytes, n), silent),
-        Held::Unread => telling::FAILED,
-    }
+    check_file(&path[..size], silent)
 }
 
 // The files of the arguments from one up to another: the worst answer.

@@ -95,32 +95,53 @@ fn show_stored(path: &[u8], bytes: &[u8]) -> u8 {
     telling::tell_unloaded(STDOUT_FILENO, path, bytes, answer)
 }
 
-// A source, with as many words: its object as stored bytes, which are then shown.
+// A source, with these buffers: its object as stored bytes, which are then shown.
+fn show_with(
+    path: &[u8],
+    src: &[u8],
+    words: &mut [u16; WORDS],
+    marks: &mut [u8; WORDS],
+    bytes: &mut [u8; STORED_BYTES],
+) -> u8 {
+    match lc3_assemble::assemble_stored(src, words, marks, bytes) {
+        Assembled::Bytes(n) => show_stored(path, front(bytes, n)),
+        Assembled::Refused(answer) => telling::tell_refusal(STDOUT_FILENO, path, src, answer),
+    }
+}
+
+// A source, with as many words.
 fn show_source(path: &[u8], src: &[u8]) -> u8 {
     let mut words = [0u16; WORDS];
     let mut marks = [0u8; WORDS];
     let mut bytes = [0u8; STORED_BYTES];
-    match lc3_assemble::assemble_stored(src, &mut words, &mut marks, &mut bytes) {
-        Assembled::Bytes(n) => show_stored(path, front(&bytes, n)),
-        Assembled::Refused(answer) => telling::tell_refusal(STDOUT_FILENO, path, src, answer),
+    show_with(path, src, &mut words, &mut marks, &mut bytes)
+}
+
+// A file of source, read into this buffer.
+fn source_read(path: &[u8], source: &mut [u8; SOURCE_BYTES]) -> u8 {
+    match lc3_input::read_file(path, source) {
+        Input::Whole(n) => show_source(path, front(source, n)),
+        Input::Longer => telling::tell_placeless(STDOUT_FILENO, path, SOURCE_TOO_LONG),
+        Input::Failed => telling::tell_unread(path),
     }
 }
 
 // A file of source.
 pub fn explain_source(path: &[u8]) -> u8 {
     let mut source = [0u8; SOURCE_BYTES];
-    match lc3_input::read_file(path, &mut source) {
-        Input::Whole(n) => show_source(path, front(&source, n)),
-        Input::Longer => telling::tell_placeless(STDOUT_FILENO, path, SOURCE_TOO_LONG),
-        Input::Failed => telling::tell_unread(path),
+    source_read(path, &mut source)
+}
+
+// A file of a stored object, read into this buffer.
+fn object_read(path: &[u8], bytes: &mut [u8; FILE_BYTES]) -> u8 {
+    match named::read_stored(path, bytes) {
+        Held::Bytes(n) => show_stored(path, front(bytes, n)),
+        Held::Unread => telling::FAILED,
     }
 }
 
 // A file of a stored object.
 pub fn explain_object(path: &[u8]) -> u8 {
     let mut bytes = [0u8; FILE_BYTES];
-    match named::read_stored(path, &mut bytes) {
-        Held::Bytes(n) => show_stored(path, front(&bytes, n)),
-        Held::Unread => telling::FAILED,
-    }
+    object_read(path, &mut bytes)
 }

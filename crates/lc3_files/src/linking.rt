@@ -22,19 +22,35 @@ enum Step {
 // Room for the names of two files.
 const PAIR_BYTES: usize = 2 * PATH_BYTES + 8;
 
-// The file of an argument linked to what stands at the front of the bytes.
-fn link_argument(bytes: &mut [u8], size: usize, i: usize, name: &mut [u8]) -> Linked {
-    let mut path = [0u8; PATH_BYTES];
-    let n = os::arg(i, &mut path);
-    let mut second = [0u8; FILE_BYTES];
-    match named::read_stored(&path[..n], &mut second) {
-        Held::Bytes(k) => lc3_link::link_stored(bytes, size, front(&second, k), name),
+// A file, read into the buffer `second`, linked to what stands at the front of the bytes.
+fn link_read(
+    bytes: &mut [u8],
+    size: usize,
+    path: &[u8],
+    second: &mut [u8; FILE_BYTES],
+    name: &mut [u8],
+) -> Linked {
+    match named::read_stored(path, second) {
+        Held::Bytes(k) => lc3_link::link_stored(bytes, size, front(second, k), name),
         Held::Unread => Linked {
             number: base_refusals::BAD_FIELD,
             size: 0,
             named: 0,
         },
     }
+}
+
+// A file linked to what stands at the front of the bytes.
+fn link_file(bytes: &mut [u8], size: usize, path: &[u8], name: &mut [u8]) -> Linked {
+    let mut second = [0u8; FILE_BYTES];
+    link_read(bytes, size, path, &mut second, name)
+}
+
+// The file of an argument linked to what stands at the front of the bytes.
+fn link_argument(bytes: &mut [u8], size: usize, i: usize, name: &mut [u8]) -> Linked {
+    let mut path = [0u8; PATH_BYTES];
+    let n = os::arg(i, &mut path);
+    link_file(bytes, size, &path[..n], name)
 }
 
 // The size of the stored object of an argument, read to the front of the bytes.
@@ -67,13 +83,12 @@ fn tell_pair(j: usize, i: usize, number: u16, name: &[u8]) -> u8 {
     status
 }
 
-// Whether the files of two arguments by themselves are refused with this number; then it is told.
-fn blame_pair(j: usize, i: usize, number: u16) -> bool {
-    let mut bytes = [0u8; FILE_BYTES];
+// Whether the files of two arguments by themselves, linked in this buffer, are refused with this number; then it is told.
+fn blame_with(bytes: &mut [u8; FILE_BYTES], j: usize, i: usize, number: u16) -> bool {
     let mut name = [0u8; NAME_BYTES];
-    match read_argument(&mut bytes, j) {
+    match read_argument(bytes, j) {
         Step::Size(size) => {
-            let linked = link_argument(&mut bytes, size, i, &mut name);
+            let linked = link_argument(bytes, size, i, &mut name);
             if linked.number == number {
                 tell_pair(j, i, number, front(&name, linked.named));
                 return true;
@@ -82,6 +97,11 @@ fn blame_pair(j: usize, i: usize, number: u16) -> bool {
         }
         Step::Stop(_) => false,
     }
+}
+
+fn blame_pair(j: usize, i: usize, number: u16) -> bool {
+    let mut bytes = [0u8; FILE_BYTES];
+    blame_with(&mut bytes, j, i, number)
 }
 
 // Tells why the file of an argument cannot be linked to those before it: which of them stands in its way; 40 and 41 are of all together.
@@ -124,6 +144,14 @@ fn link_rest(bytes: &mut [u8], start: usize, first: usize, end: usize) -> u8 {
     telling::write_out(front(bytes, size), telling::ACCEPTED)
 }
 
+// The files of the arguments from one up to another, linked in this buffer.
+fn link_with(bytes: &mut [u8; FILE_BYTES], first: usize, end: usize) -> u8 {
+    match read_argument(bytes, first) {
+        Step::Size(size) => link_rest(bytes, size, first, end),
+        Step::Stop(status) => status,
+    }
+}
+
 // The files of the arguments from one up to another. Each is checked first, so that every file that is no object is named.
 pub fn link_files(first: usize, end: usize) -> u8 {
     let worst = checking::check_all(first, end, true);
@@ -131,8 +159,5 @@ pub fn link_files(first: usize, end: usize) -> u8 {
         return worst;
     }
     let mut bytes = [0u8; FILE_BYTES];
-    match read_argument(&mut bytes, first) {
-        Step::Size(size) => link_rest(&mut bytes, size, first, end),
-        Step::Stop(status) => status,
-    }
+    link_with(&mut bytes, first, end)
 }

@@ -27,15 +27,23 @@ fn tell(written: bool, accepted: bool) {
     io::write_all(STDERR_FILENO, b"lc3: standard output cannot be written\n");
 }
 
-// A source listed on standard output, and whether it is accepted told: only the line of a refusal begins with an R.
+// A source listed in this buffer and on standard output, and whether it is accepted told: only the line of a refusal begins with an R.
+fn print_with(src: &[u8], more: bool, text: &mut [u8; LISTING_BYTES])
+    requires { ⌜ length (now src) ≤ 65536 ⌝ }
+    requires { ⌜ (more ≡ true → length (now src) ≡ 65536) ⌝ }
+{
+    let n = list_print::list_source(src, more, text);
+    let written = print_front(text, n);
+    tell(written, text[0] != b'R');
+}
+
+// A source listed on standard output.
 fn print_listing(src: &[u8], more: bool)
     requires { ⌜ length (now src) ≤ 65536 ⌝ }
     requires { ⌜ (more ≡ true → length (now src) ≡ 65536) ⌝ }
 {
     let mut text = [0u8; LISTING_BYTES];
-    let n = list_print::list_source(src, more, &mut text);
-    let written = print_front(&text, n);
-    tell(written, text[0] != b'R');
+    print_with(src, more, &mut text);
 }
 
 // All of an input that the program holds.

@@ -40,18 +40,29 @@ fn replay_all(data: &[u8], src: &mut [u8]) -> u64 {
     line
 }
 
-// Replays the lines of a file and answers how many there are. It holds fewer bytes than both files have: the checker's stack sets a limit to an array's length.
+// How many bytes a file has at most, and a source. Two files, since the checker's stack sets a limit to an array's length.
+const FILE: usize = 327680;
+
+const SOURCE: usize = 262146;
+
+// Replays the lines of an open file, read into `data`, and answers how many there are.
+fn replay_open(file: i32, data: &mut [u8; FILE], src: &mut [u8; SOURCE]) -> u64 {
+    let got = io::read_full(file, data);
+    libc::close(file);
+    let read: &[u8] = data;
+    replay_all(&read[..got], src)
+}
+
+// Replays the lines of a file and answers how many there are.
 fn replay_file(path: &[u8]) -> u64 {
     let file = os::open_read(path);
     if file < 0 {
         os::fail(path);
         return 0;
     }
-    let mut data = [0u8; 327680];
-    let mut src = [0u8; 262146];
-    let got = io::read_full(file, &mut data);
-    libc::close(file);
-    replay_all(&data[..got], &mut src)
+    let mut data = [0u8; FILE];
+    let mut src = [0u8; SOURCE];
+    replay_open(file, &mut data, &mut src)
 }
 
 fn main() {

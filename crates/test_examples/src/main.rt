@@ -156,20 +156,30 @@ fn show_link(name: &[u8], first: &[u8], second: &[u8]) {
     );
 }
 
-fn marked_examples() {
+// The examples by number. Each function has a few: the more calls one has, the dearer is each of them to check.
+fn modules() {
     show(
         b"P1\n",
         b".orig x3000\nSTART LEA R0, MSG\nPUTS\nHALT\nMSG .stringz \"Hi\"\n.end\n",
     );
     show(b"P2\n", &P2);
     show(b"P3\n", &P3);
+}
+
+fn links() {
     show_link(b"P2 and P3\n", &P2, &P3);
     show_link(b"P3 and P2\n", &P3, &P2);
+}
+
+fn addresses() {
     show(b"P4\n", b"");
     show(b"P5\n", b".orig xFDFF\n.fill 0\n.end\n");
     show(b"P5\n", b".orig xFE00\n.fill 0\n.end\n");
     show(b"P6\n", b".orig xFFFF\n.fill 0\n.end\n");
     show(b"P6\n", b".orig xFFFF\n.blkw 2\n.end\n");
+}
+
+fn offsets() {
     show(
         b"P7\n",
         b".orig x3000\nLD R0, A\n.blkw 255\nA .fill 1\n.end\n",
@@ -179,11 +189,18 @@ fn marked_examples() {
         b".orig x3000\nLD R0, A\n.blkw 256\nA .fill 1\n.end\n",
     );
     show(b"P8\n", b".external F\n.orig x3000\nLD R0, F\n.end\n");
+}
+
+fn numbers() {
     show(b"P9\n", b".orig x3000\n.fill -32768\n.end\n");
     show(b"P9\n", b".orig x3000\n.fill -32769\n.end\n");
     show_link(b"P10\n", &P3, &P3);
 }
 
 fn main() {
-    marked_examples();
+    modules();
+    links();
+    addresses();
+    offsets();
+    numbers();
 }

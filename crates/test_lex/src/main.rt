@@ -287,6 +287,19 @@ fn replay_all(data: &[u8], src: &mut [u8]) -> u64 {
     number
 }
 
+// How many bytes the file has at most, and a source.
+const FILE: usize = 262144;
+
+const SOURCE: usize = 262146;
+
+// Replays the vectors of an open file, read into `data`, and answers how many there are.
+fn replay_open(file: i32, data: &mut [u8; FILE], src: &mut [u8; SOURCE]) -> u64 {
+    let got = io::read_full(file, data);
+    libc::close(file);
+    let read: &[u8] = data;
+    replay_all(&read[..got], src)
+}
+
 fn main() {
     let path = b"vectors.bin";
     let file = os::open_read(path);
@@ -294,11 +307,9 @@ fn main() {
         os::fail(path);
         return;
     }
-    let mut data = [0u8; 262144];
-    let mut src = [0u8; 262146];
-    let got = io::read_full(file, &mut data);
-    libc::close(file);
-    let count = replay_all(&data[..got], &mut src);
+    let mut data = [0u8; FILE];
+    let mut src = [0u8; SOURCE];
+    let count = replay_open(file, &mut data, &mut src);
     io::print_decimal(STDOUT_FILENO, count);
     io::write_all(STDOUT_FILENO, b"\n");
 }

@@ -72,6 +72,19 @@ fn replay_all(data: &[u8], src: &mut [u8]) -> u64 {
     line
 }
 
+// How many bytes the file has at most, and a source.
+const FILE: usize = 131072;
+
+const SOURCE: usize = 1024;
+
+// Replays the lines of an open file, read into `data`, and answers how many there are.
+fn replay_open(file: i32, data: &mut [u8; FILE], src: &mut [u8; SOURCE]) -> u64 {
+    let got = io::read_full(file, data);
+    libc::close(file);
+    let read: &[u8] = data;
+    replay_all(&read[..got], src)
+}
+
 fn main() {
     let path = b"vectors.txt";
     let file = os::open_read(path);
@@ -79,11 +92,9 @@ fn main() {
         os::fail(path);
         return;
     }
-    let mut data = [0u8; 131072];
-    let mut src = [0u8; 1024];
-    let got = io::read_full(file, &mut data);
-    libc::close(file);
-    let count = replay_all(&data[..got], &mut src);
+    let mut data = [0u8; FILE];
+    let mut src = [0u8; SOURCE];
+    let count = replay_open(file, &mut data, &mut src);
     io::print_decimal(STDOUT_FILENO, count);
     io::write_all(STDOUT_FILENO, b"\n");
 }

@@ -262,6 +262,14 @@ fn replay_all(data: &[u8]) -> u64 {
     line
 }
 
+// Replays the lines of an open file, read into `data`, and answers how many there are.
+fn replay_open(file: i32, data: &mut [u8; FILE]) -> u64 {
+    let got = io::read_full(file, data);
+    libc::close(file);
+    let read: &[u8] = data;
+    replay_all(&read[..got])
+}
+
 fn main() {
     let path = b"vectors.txt";
     let file = os::open_read(path);
@@ -270,8 +278,6 @@ fn main() {
         return;
     }
     let mut data = [0u8; FILE];
-    let got = io::read_full(file, &mut data);
-    libc::close(file);
-    io::print_decimal(STDOUT_FILENO, replay_all(&data[..got]));
+    io::print_decimal(STDOUT_FILENO, replay_open(file, &mut data));
     io::write_all(STDOUT_FILENO, b"\n");
 }
