@@ -40,7 +40,7 @@ fn replay_all(data: &[u8], src: &mut [u8]) -> u64 {
     line
 }
 
-// How many bytes a file has at most, and a source. Two files, since the checker's stack sets a limit to an array's length.
+// How many bytes a file has at most, and a source.
 const FILE: usize = 327680;
 
 const SOURCE: usize = 262146;
