@@ -5,7 +5,7 @@ use mathlib.Core.List.{List}
 use Prim.Native.Nat.{ℕ, _*_, _≤_}
 use native.Mathlib.Omega.{arith}
 use lib.ListN.{length, length-replicate}
-use Rattle.rules.specs.Base.{ok, refuse2, span}
+use Rattle.rules.specs.Base.{ok}
 use Rattle.rules.specs.Statements.{Stmt, statements}
 use Rattle.rules.specs.Objects.{Object, object, nothing}
 use Rattle.rules.specs.Buffers.{Buffers, six, short, lentWords, headRow, sumOf, zeros, lay, relocCells, layBlocks, layWords, layMarks, layLabels, layRelocs, layNames, layout}

@@ -22,7 +22,7 @@ ghost use Rattle.isa.specs.Disassembly.{meantLine};
 ghost use Rattle.lex_token.specs.Flat.{lexeme};
 ghost use Rattle.object_answer.specs.Meant.{meant as meantAnswer};
 ghost use Rattle.object_lookup.specs.Told.{said};
-ghost use Rattle.lc3_answers.specs.Told.{reply, row, four, answered, counted, refusedAt, tokenTold, lexemeTold, statementsTold, writtenTold, saidTold, RowIn, foundTold, operandTold, instrTold, lineTold};
+ghost use Rattle.lc3_answers.specs.Told.{reply, row, four, counted, refusedAt, tokenTold, lexemeTold, statementsTold, writtenTold, saidTold, RowIn, foundTold, operandTold, instrTold, lineTold};
 
 pub struct Reply {
     pub number: u64,

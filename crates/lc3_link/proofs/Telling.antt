@@ -1,14 +1,13 @@
 -- What the functions of `lc3_link` answer and leave, by what comes of the link. Assumes nothing.
 use Prim.Native.Nat.{ℕ, zero, suc, _-_}
-use mathlib.Core.Path.{_≡_, refl, sym, _∙_, ap}
-use mathlib.Core.Bool.{Bool, true, false}
+use mathlib.Core.Path.{_≡_, sym, _∙_, ap}
 use mathlib.Core.List.{List, [], _∷_}
 use native.Mathlib.Omega.{arith}
 use borrow.Author.Tests.{eq-eqb, ne-eqb}
 use lib.ListN.{take}
 use Rattle.rules.specs.Base.{if_then_else_, Outcome, ok, refused, Refusal}
 use Rattle.rules.specs.Capacities.{wordRoom}
-use Rattle.rules.specs.Objects.{Name, Object, Counts, Good}
+use Rattle.rules.specs.Objects.{Name, Object, Counts}
 use Rattle.rules.specs.Buffers.{Buffers, view, nameRow, zeros}
 use Rattle.rules.specs.Linking.{link}
 use Rattle.rules.specs.Stored.{load}

@@ -7,7 +7,7 @@ use Prim.Native.Nat.{ℕ, _+_, _-_, _<_}
 use native.Mathlib.Omega.{arith}
 use borrow.Author.Tests.{ltb-true, eqb-true}
 use lib.Dec.{ltb}
-use Rattle.rules.specs.Base.{Outcome, ok, refuse2, _>>=_, span}
+use Rattle.rules.specs.Base.{Outcome, ok, _>>=_, span}
 use Rattle.rules.specs.Words as words
 use Rattle.rules.specs.Statements.{Name, Stmt, labelsAt}
 use Rattle.rules.proofs.Bools.{never, and-left, and-right}
@@ -41,7 +41,7 @@ module _ (rs qs src rs′ qs′ : List ℕ) (o : code.Pass1State) (f : Pass1Stat
       record { rule = j .rule ∙ sym (ap (λ (x : Outcome Pass1State). x >>= g) w); kept = j .kept }
 
   then-refused : (x : Refusal) → a ≡ Refused x → Stepping rs qs src rs′ qs′ o (λ v. f v >>= g) a
-  then-refusedBy x q =
+  then-refused x q =
       let w : f (seen rs qs src o) ≡ refusedBy x = sym (k .rule) ∙ ap (told (λ n. symbols n rs′ src) (λ n. notes n qs′ src)) q in
       record {
         rule = ap (told (λ n. symbols n rs′ src) (λ n. notes n qs′ src)) q ∙ sym (ap (λ (x : Outcome Pass1State). x >>= g) w);
@@ -59,7 +59,7 @@ module _ (rs qs src : List ℕ) (o : code.Pass1State) (st : Statement) (w : Stan
     (k : (at : ℕ) (s : Stmt) → Faithful src at st s → Stepping rs qs src rs′ qs′ o (λ v. directed (s .op) s v) a) where
   pub on-refused : (x : Refusal) → a ≡ Refused x → (at : ℕ) (s : Stmt) → Faithful src at st s → Stepping rs qs src rs′ qs′ o (stepOn s) a
   unfolding stepOn
-  on-refusedBy x q at s f = then-refused rs qs src rs′ qs′ o (λ v. directed (s .op) s v) a (k at s f) (λ b. advanced (wordLen (s .op) s) (s .place) b) x q
+  on-refused x q at s f = then-refused rs qs src rs′ qs′ o (λ v. directed (s .op) s v) a (k at s f) (λ b. advanced (wordLen (s .op) s) (s .place) b) x q
 
   module _ (b : code.Pass1State) (q : a ≡ Went b) where
     on-held : Held rs′ qs′ src b
@@ -102,7 +102,7 @@ module _ (rs qs src : List ℕ) (o : code.Pass1State) (h : Held rs qs src o) (st
 
   pub step-refused : (x : Refusal) → a ≡ Refused x → (s : Stmt) → Faithful src at st s → Stepping rs qs src rs′ qs o (stepOne s) a
   unfolding stepOne stepOn
-  step-refusedBy x q s f = then-refused rs qs src rs′ qs o (λ v. labelled (s .labels) (s .place) v) a (labels-by s f) (stepOn s) x q
+  step-refused x q s f = then-refused rs qs src rs′ qs o (λ v. labelled (s .labels) (s .place) v) a (labels-by s f) (stepOn s) x q
 
   module _ (b : code.Pass1State) (q : a ≡ Went b) where
     pub step-went : (rs″ qs″ : List ℕ) (r : Pass1Step) → ((at : ℕ) (s : Stmt) → Faithful src at st s → Stepping rs′ qs src rs″ qs″ b (stepOn s) r) → (s : Stmt) → Faithful src at st s → Stepping rs qs src rs″ qs″ o (stepOne s) r

@@ -4,7 +4,6 @@ use mathlib.Core.Bool.{Bool, true, false}
 use mathlib.Core.Option.{Option, none, some}
 use mathlib.Core.List.{List, [], _∷_}
 use Prim.Native.Nat.{ℕ}
-use native.Mathlib.Omega.{arith}
 use Rattle.rules.specs.Base.{Outcome, ok, refuse, _>>=_, Span, span}
 use Rattle.rules.specs.Tables.{Table}
 use Rattle.rules.specs.Objects.{outer}

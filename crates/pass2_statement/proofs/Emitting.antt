@@ -6,7 +6,7 @@ use mathlib.Core.List.{List, _++_}
 use Prim.Native.Nat.{ℕ, _+_, _-_, _<_}
 use native.Mathlib.Omega.{arith}
 use lib.ListN.{length}
-use Rattle.rules.specs.Base.{Outcome, ok, refuse, refuse2, _>>=_, span}
+use Rattle.rules.specs.Base.{Outcome, ok, refuse, _>>=_, span}
 use Rattle.rules.specs.Tables.{Table}
 use Rattle.rules.specs.Objects.{Cell, Name}
 use Rattle.rules.specs.Statements.{Stmt}

@@ -2,8 +2,7 @@
 use Prim.Native.Nat.{ℕ, zero, suc, _+_, _-_, _*_, _≤_, _<_}
 use mathlib.Core.Path.{_≡_, refl, ap}
 use mathlib.Core.List.{List, [], _∷_, _++_, flatMap}
-use native.Mathlib.Omega.{arith}
-use lib.ListN.{length, getD, take, drop}
+use lib.ListN.{length, getD}
 use Rattle.rules.specs.Tables.{Table}
 use Rattle.rules.specs.Objects.{Name, Lab}
 use Rattle.rules.specs.Buffers.{tab, nameRow, labFrom, labelRow, relocRow, viewLabels, viewRelocs}

@@ -1,7 +1,7 @@
 -- The line of an offset at which stored bytes are refused, and what stands there in words. Assumes nothing.
 use Prim.Native.Nat.{ℕ}
-use mathlib.Core.List.{List, [], _∷_, _++_}
-use mathlib.Core.Bool.{Bool, true, false}
+use mathlib.Core.List.{List, _++_}
+use mathlib.Core.Bool.{Bool}
 use lib.Dec.{eqb}
 use Rattle.rules.specs.Base.{if_then_else_, bytes}
 use Rattle.rules.specs.Listing.{lf}
