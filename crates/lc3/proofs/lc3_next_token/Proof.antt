@@ -13,4 +13,4 @@ lc3-next-token-spec =
     (λ c κs. search needs)
     (λ c κs. search needs)
     (λ c κs. search needs)
-    (λ c. next-put (c .put-answer .ensures) (coded (nextToken (c .before .before .before .args .src .now) (c .before .before .before .args .at))) (c .before .before .lexeme-at .ensures) (c .before .told-lexeme .ensures)))
+    (λ c. next-put (c .put-answer .ensures) (coded (nextToken (c .before .before .before .before .before .args .src .now) (c .before .before .before .before .before .args .at))) (c .before .before .lexeme-at .ensures) (c .before .told-lexeme .ensures)))
