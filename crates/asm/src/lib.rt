@@ -1,4 +1,6 @@
 // Assembling: any source to an object in lent buffers, or one refusal and every buffer zero.
+#![tactic(auto)]
+
 ghost use Rattle.std.specs.Prelude.{◌≡◌, false, List, ◌≤◌};
 ghost use Rattle.rules.specs.Base.{ok};
 ghost use Rattle.rules.specs.Statements.{Stmt, statements};

@@ -1,4 +1,6 @@
 // A call up to pass two: the tables of pass one, or the refusal that goes before all others.
+#![tactic(auto)]
+
 ghost use Rattle.std.specs.Prelude.{◌≡◌, ◌≤◌, length};
 ghost use Rattle.asm_first_half.specs.Tabled.{after_check, Tabled};
 ghost use Rattle.asm_first_half.specs.Starting.{Started};

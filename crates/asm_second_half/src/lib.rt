@@ -1,4 +1,6 @@
 // The object of a source whose tables pass one has left: pass two, and every table in the one layout.
+#![tactic(auto)]
+
 ghost use Rattle.std.specs.Prelude.{◌≡◌, false, ◌*◌, ◌≤◌, length};
 ghost use Rattle.rules.specs.Buffers.{six, short, lent_words, lay, reloc_cells};
 ghost use Rattle.object_layout_labels.specs.Laying.{LabelRoom, LaidLabels};

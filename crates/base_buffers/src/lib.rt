@@ -1,4 +1,6 @@
 // Lent buffers of bytes, words and table cells: zeroed, pasted into, and filled from the front with zeros behind.
+#![tactic(auto)]
+
 ghost use Rattle.std.specs.Prelude.{◌≡◌, ◌+◌, ◌*◌, ◌≤◌, ◌<◌, length};
 ghost use Rattle.std.proofs.Math.Seq.{paste};
 ghost use Rattle.rules.specs.Buffers.{zeros, lay};

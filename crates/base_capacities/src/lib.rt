@@ -1,4 +1,5 @@
 // Document 01's capacities by name, and the shape of an object's rows in its lent buffers.
+#![tactic(auto)]
 
 // The longest source and the longest name, in bytes.
 pub const SOURCE_BYTES: usize = 262144;

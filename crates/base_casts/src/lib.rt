@@ -1,4 +1,6 @@
 // Numbers of one width as numbers of another, with the same value.
+#![tactic(auto)]
+
 ghost use Rattle.std.specs.Prelude.{◌≡◌, ◌≤◌, ◌<◌};
 
 // To usize.

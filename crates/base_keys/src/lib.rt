@@ -1,4 +1,6 @@
 // The key of a name: its first ten characters as one number. Where two keys differ, the names in upper case are in the order of the keys.
+#![tactic(auto)]
+
 ghost use Rattle.std.specs.Prelude.{◌≡◌, map};
 ghost use Rattle.rules.specs.Tokens.{upper};
 ghost use Rattle.base_keys.specs.Keys.{digit_of, onward, key_of};

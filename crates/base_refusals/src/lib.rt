@@ -1,4 +1,5 @@
 // Document 01's refusals by name, and a refusal with its places. What each means, and where its place is, stands in docs/RULES.md; the rules' own table is `Answers.refusals`.
+#![tactic(auto)]
 
 // Tokens, after LexErr of the Rust.
 pub const DOES_NOT_FIT_U16: u16 = 1;
@@ -75,7 +76,7 @@ pub const BAD_FIELD: u16 = 50;
 pub const NO_WRITE_ROOM: u16 = 51;
 
 // A refusal: its number and its two places, of which one that it does not have is 0 and 0.
-#[derive(Drop)]
+#[derive(Clone, Copy)]
 pub struct Refusal {
     pub number: u16,
     pub start: usize,

@@ -1,4 +1,6 @@
 // Two neighbouring ranges of a buffer exchanged in place, by three reversals.
+#![tactic(auto)]
+
 ghost use Rattle.std.specs.Prelude.{◌≡◌, ◌≤◌, length};
 ghost use Rattle.base_rotate.specs.Turned.{reversed, turned};
 

@@ -1,4 +1,6 @@
 // Rows opened in a sorted table, whose later rows move up.
+#![tactic(auto)]
+
 ghost use Rattle.std.specs.Prelude.{◌≡◌, [], ◌∷◌, ◌+◌, ◌*◌, ◌≤◌, length};
 ghost use Rattle.base_rows.specs.Opened.{gapped, inserted};
 

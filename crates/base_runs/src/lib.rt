@@ -1,4 +1,6 @@
 // Long runs of bytes of a class, looked at many bytes at a time: loops without an exit, of which the compiler makes wide ones.
+#![tactic(auto)]
+
 ghost use Rattle.std.specs.Prelude.{◌≡◌};
 ghost use Rattle.base_text.specs.Runs.{run_end};
 ghost use Rattle.base_text.specs.declared.Class.TheVariants.{Ascii, Plain};

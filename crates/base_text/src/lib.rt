@@ -1,4 +1,6 @@
 // Bytes of a source: their classes, upper case, the value of a digit, runs of a class, and names compared.
+#![tactic(auto)]
+
 ghost use Rattle.std.specs.Prelude.{◌≡◌, map, ◌+◌, ◌≤◌, ◌<◌, length, get_or};
 ghost use Rattle.rules.specs.Base.{same};
 ghost use Rattle.rules.specs.Tokens.{digit, letter, wordy, space, upper, value};
@@ -96,7 +98,7 @@ pub fn is_plain(b: u8) -> bool
 }
 
 // The classes of which a source has runs; Line is every byte but the line feed, Plain what stands for itself in a string.
-#[derive(Drop)]
+#[derive(Clone, Copy)]
 pub enum Class {
     Word,
     Digit,
@@ -162,7 +164,7 @@ pub fn same_name(a: &[u8], b: &[u8]) -> bool
 }
 
 // How two names stand to each other.
-#[derive(Drop)]
+#[derive(Clone, Copy)]
 pub enum Order {
     Less,
     Same,

@@ -7,21 +7,21 @@ use crate::{AsmInstr, ImmOrReg, codes};
 use isa_fields::{HALF5, HALF6, HALF9, HALF11, VALUES5, VALUES6, VALUES9, VALUES11, WORD_MOST};
 
 // What a word disassembles to, if it is an instruction.
-#[derive(Drop)]
+#[derive(Clone, Copy)]
 pub enum Disassembled {
     Instr(AsmInstr),
     Nothing,
 }
 
 // A line of disassembly: an instruction, or a .fill of the word.
-#[derive(Drop)]
+#[derive(Clone, Copy)]
 pub enum Line {
     Instr(AsmInstr),
     Fill(u16),
 }
 
 // The last operand of ADD and AND, if its bits can be one.
-#[derive(Drop)]
+#[derive(Clone, Copy)]
 enum Last {
     Operand(ImmOrReg),
     Malformed,

@@ -1,4 +1,6 @@
 // Instructions and their words, both ways, after src/ast/asm.rs and src/ast/sim.rs.
+#![tactic(auto)]
+
 ghost use Rattle.std.specs.Prelude.{◌≡◌, ◌+◌, ◌≤◌, ◌<◌};
 ghost use Rattle.std.proofs.Math.Option.{some};
 ghost use Rattle.rules.specs.Words.{DR, SR, reg_or_imm, num, unsigned, register, value, bits, ◌⊕◌, word};
@@ -22,14 +24,14 @@ pub type IOffset = u16;
 // A trap vector, from 0 to 255.
 pub type TrapVect8 = u16;
 
-#[derive(Drop)]
+#[derive(Clone, Copy)]
 pub enum ImmOrReg {
     Imm(IOffset),
     Reg(Reg),
 }
 
 // An instruction with its offsets already found.
-#[derive(Drop)]
+#[derive(Clone, Copy)]
 pub enum AsmInstr {
     ADD(Reg, Reg, ImmOrReg),
     AND(Reg, Reg, ImmOrReg),

@@ -1,18 +1,20 @@
 // Numbers in the fields of a word: which fit, and their bits; a label operand's offset. A signed number is kept modulo 65536, as its sixteen bits.
+#![tactic(auto)]
+
 ghost use Rattle.std.specs.Prelude.{◌≡◌, ◌<◌};
 ghost use Rattle.rules.specs.Base.{nowhere};
 ghost use Rattle.rules.specs.Words.{range, signed, bits, num, value, reach, offset};
 ghost use Rattle.isa_fields.specs.Fields.{encoded, signed16, meant_offset, tested};
 
 // The bits of a field or of a whole word, or that a number lies outside its field.
-#[derive(Drop)]
+#[derive(Clone, Copy)]
 pub enum Encoded {
     Bits(u16),
     Outside,
 }
 
 // A label's offset as sixteen bits, or that it lies outside its field.
-#[derive(Drop)]
+#[derive(Clone, Copy)]
 pub enum Replaced {
     Offset(u16),
     OffsetNewErr,

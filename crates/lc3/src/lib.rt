@@ -1,4 +1,6 @@
 // The functions for other languages. A slice passes as a pointer and a length; every answer goes to `out`: the number, two spans and four counts.
+#![tactic(auto)]
+
 ghost use Rattle.std.specs.Prelude.{◌≡◌, length};
 ghost use Rattle.rules.specs.Tokens.{next_token};
 ghost use Rattle.rules.specs.Words.{line};

@@ -1,4 +1,6 @@
 // The answers of the calls from other languages, as nine numbers: a number, two spans and four counts.
+#![tactic(auto)]
+
 ghost use Rattle.std.specs.Prelude.{◌≡◌, ◌+◌, ◌*◌, ◌≤◌, length, get_or};
 ghost use Rattle.rules.specs.Base.{span};
 ghost use Rattle.isa.specs.Instructions.{meant, operand_of};
@@ -16,7 +18,7 @@ use object_answer::{Answer, Written};
 use object_lookup::{Found, Said};
 use parse::Statements;
 
-#[derive(Drop)]
+#[derive(Clone, Copy)]
 pub struct Reply {
     pub number: u64,
     pub start: u64,

@@ -1,11 +1,13 @@
 // A source assembled into stored bytes: its object in a lent buffer as it is stored, or its refusal with its places.
+#![tactic(auto)]
+
 ghost use Rattle.std.specs.Prelude.{◌≡◌, length};
 ghost use Rattle.lc3_assemble.specs.Assembled.{answered, Told};
 
 use object_answer::{Answer, Written};
 
 // What becomes of a source: so many stored bytes, or the answer of a refusal.
-#[derive(Drop)]
+#[derive(Clone, Copy)]
 pub enum Assembled {
     Bytes(usize),
     Refused(Answer),

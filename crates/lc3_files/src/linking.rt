@@ -10,7 +10,7 @@ use std::num::wrapping_add_usize;
 use view_text::put;
 
 // What the next file of a list gives: the size of the result up to it, or the answer.
-#[derive(Drop)]
+#[derive(Clone, Copy)]
 enum Step {
     Size(usize),
     Stop(u8),

@@ -1,5 +1,7 @@
 // The program behind ./lc3 assemble, link, check, list --object and list --explain: it works on the files that its arguments name. An object goes to standard output as stored bytes; what
 // ./lc3 answers with is told on descriptor 3.
+#![tactic(auto)]
+
 mod assembling;
 mod checking;
 mod explaining;

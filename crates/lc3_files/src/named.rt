@@ -9,7 +9,7 @@ pub const PATH_BYTES: usize = 4096;
 pub const FILE_BYTES: usize = STORED_BYTES + 1;
 
 // What a file of stored bytes is: so many bytes at the front of the buffer, or not to be read.
-#[derive(Drop)]
+#[derive(Clone, Copy)]
 pub enum Held {
     Bytes(usize),
     Unread,

@@ -1,11 +1,13 @@
 // What the programs behind ./lc3 share: a file or standard input read into a lent buffer, an error told apart from its end, and the byte by which an answer is told to whoever runs the program.
+#![tactic(auto)]
+
 ghost use Rattle.std.specs.Prelude.{◌≡◌};
 ghost use Rattle.lc3_input.specs.Held.{Held, first_of, status_of};
 
 use libc::STDIN_FILENO;
 
 // What an input was: all of it, so many bytes at the front of the buffer; longer than the buffer; or not to be read to its end.
-#[derive(Drop)]
+#[derive(Clone, Copy)]
 pub enum Input {
     Whole(usize),
     Longer,

@@ -1,4 +1,6 @@
 // Two stored objects linked: both are loaded, linked, and the result is stored where the first was.
+#![tactic(auto)]
+
 ghost use Rattle.std.specs.Prelude.{◌≡◌, length};
 ghost use Rattle.rules.specs.Capacities.{word_room};
 ghost use Rattle.rules.specs.Buffers.{six, view};
@@ -15,7 +17,7 @@ use object_answer::{Answer, Written, counts_of};
 use view_text::put;
 
 // What a link of two objects gives: its number, how many bytes the result has, and how long the name is that stands in the way.
-#[derive(Drop)]
+#[derive(Clone, Copy)]
 pub struct Linked {
     pub number: u16,
     pub size: usize,

@@ -1,4 +1,6 @@
 // The listing program: assembles standard input and prints the object's listing, or REFUSED and the number.
+#![tactic(auto)]
+
 ghost use Rattle.std.specs.Prelude.{◌≡◌, true, ◌≤◌, length};
 
 use lc3_input::{Input, STATUS_FILENO};

@@ -1,4 +1,6 @@
 // The lexer: the next token of a source from a place on, as four numbers for whoever reads statements, as an enum for every other caller.
+#![tactic(auto)]
+
 ghost use Rattle.std.specs.Prelude.{◌≡◌, true, false, ◌+◌, ◌≤◌, ◌<◌, length, get_or};
 ghost use Rattle.rules.specs.Tokens.{letter, space, word_at, after_r, after_x, after_hash, after_minus, after_quote, token_at, next_token};
 ghost use Rattle.base_text.specs.Runs.{from};

@@ -1,4 +1,6 @@
 // Numbers and strings, read left to right in one walk.
+#![tactic(auto)]
+
 ghost use Rattle.std.specs.Prelude.{◌≡◌, false, ◌&&◌, ◌+◌, ◌≤◌, ◌<◌, ltb, length, get_or};
 ghost use Rattle.rules.specs.Tokens.{escape};
 ghost use Rattle.base_text.specs.Runs.{from};
@@ -6,7 +8,7 @@ ghost use Rattle.lex_literals.specs.Numbers.{stopped, number_from};
 ghost use Rattle.lex_literals.specs.Strings.{line_stops, is_escape, behind, special, stands_for, scan, char_at};
 
 // What reading a number finds, and where it stopped.
-#[derive(Drop)]
+#[derive(Clone, Copy)]
 pub enum Reading {
     // Its value; the word characters end here.
     Good { value: u16, end: usize },
@@ -66,7 +68,7 @@ pub fn read_number(src: &[u8], at: usize, base: u32, bound: u32) -> Reading
 }
 
 // What reading a string after its quote finds.
-#[derive(Drop)]
+#[derive(Clone, Copy)]
 pub enum Scanned {
     // How many characters it has, and the place after its end quote.
     Closed { count: usize, end: usize },
@@ -108,7 +110,7 @@ fn escape_size(b: u8) -> usize
 }
 
 // What stands in a string where its plain bytes end.
-#[derive(Drop)]
+#[derive(Clone, Copy)]
 pub enum Special {
     // The line or the source ends here.
     Ends(usize),
@@ -182,7 +184,7 @@ pub fn scan_string(src: &[u8], at: usize) -> Scanned
 }
 
 // A character of a string and the place of the next, or the end quote.
-#[derive(Drop)]
+#[derive(Clone, Copy)]
 pub enum StringChar {
     Char { byte: u8, next: usize },
     Done,

@@ -1,4 +1,6 @@
 // The thirty-two reserved words in one constant table, the search in it, and a quick way to a reserved word by its key.
+#![tactic(auto)]
+
 ghost use Rattle.std.specs.Prelude.{◌≡◌, map, ◌+◌, ◌-◌, ◌*◌, ◌≤◌, ◌<◌, length, get_or};
 ghost use Rattle.rules.specs.Base.{same};
 ghost use Rattle.rules.specs.Tokens.{upper};
@@ -10,7 +12,7 @@ ghost use Rattle.lex_reserved.specs.Slots.{key_of, key_bound, slot_of, slot_row}
 use base_casts::{long8, wide8};
 
 // What a word is: reserved, with the code of its instruction, or a label. The codes count the instructions from 0 in the order of lex.rs.
-#[derive(Drop)]
+#[derive(Clone, Copy)]
 pub enum Ident {
     Reserved(u8),
     Label,

@@ -1,4 +1,6 @@
 // The first refusal of a whole source by the lexer's rules: 11, 12, then 1 to 10 in source order.
+#![tactic(auto)]
+
 ghost use Rattle.std.specs.Prelude.{◌≡◌};
 ghost use Rattle.rules.specs.Base.{verdict};
 ghost use Rattle.rules.specs.Tokens.{lexed};
@@ -8,7 +10,7 @@ ghost use Rattle.lex_source.specs.Lexed.{meant_lexed, stop};
 use lex_token::Lexeme;
 
 // Acceptance, or a refusal with its number and place.
-#[derive(Drop)]
+#[derive(Clone, Copy)]
 pub enum Lexed {
     Clean,
     Fault {

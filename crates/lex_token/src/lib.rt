@@ -1,4 +1,6 @@
 // Tokens, what looking for the next one answers, a token as four numbers, and the tokens that are numbers and registers.
+#![tactic(auto)]
+
 ghost use Rattle.std.specs.Prelude.{◌≡◌, ◌+◌, ◌≤◌, length};
 ghost use Rattle.rules.specs.Tokens.{number_after, dec, dec_neg, hex, hex_neg, reg};
 ghost use Rattle.base_text.specs.Runs.{from};
@@ -15,7 +17,7 @@ use lex_literals::Reading;
 use lex_reserved::Ident;
 
 // A token. Its words and characters stand in the source at its span.
-#[derive(Drop)]
+#[derive(Clone, Copy)]
 pub enum Token {
     // A number as written without a sign.
     Unsigned(u16),
@@ -32,7 +34,7 @@ pub enum Token {
 }
 
 // What looking for the next token answers: the token from `start` up to `end`, where to look on from; the end of the source and its place; or a refusal with its number and place.
-#[derive(Drop)]
+#[derive(Clone, Copy)]
 pub enum Next {
     Took {
         token: Token,
@@ -49,7 +51,7 @@ pub enum Next {
 
 // A token as four numbers: what sort of token it is, its value, and its place. The lexer hands tokens on in this form.
 // The value is a number's size, a register's number, a reserved word's code or a refusal's number, else 0.
-#[derive(Drop)]
+#[derive(Clone, Copy)]
 pub struct Lexeme {
     pub sort: u8,
     pub value: u16,
@@ -107,7 +109,7 @@ const I16_LEAST: u32 = 32768;
 const LAST_REGISTER: u32 = 7;
 
 // How a number is written: its base and bound, the refusals of a wrong digit, an overflow and no digit, and its sign.
-#[derive(Drop)]
+#[derive(Clone, Copy)]
 pub struct Form {
     pub base: u32,
     pub bound: u32,

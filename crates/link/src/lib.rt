@@ -1,4 +1,6 @@
 // Linking: two lent objects into a third, or one refusal and every buffer zero.
+#![tactic(auto)]
+
 ghost use Rattle.rules.specs.Buffers.{six};
 ghost use Rattle.object.specs.Meaning.{counts};
 ghost use Rattle.link.specs.Call.{Linked};

@@ -1,4 +1,6 @@
 // The blocks of two objects that are linked: whether they share an address, and both tables in one, with their words and marks.
+#![tactic(auto)]
+
 ghost use Rattle.std.specs.Prelude.{◌≡◌, ◌+◌, ◌*◌, ◌≤◌, ◌<◌, length};
 ghost use Rattle.std.proofs.Math.Seq.{paste};
 ghost use Rattle.rules.specs.Buffers.{tab, head_row, lay};

@@ -1,4 +1,6 @@
 // What a link of two lent objects answers, before anything is written: 42, 43, 28, 25, then 40 and 41 counted on the result.
+#![tactic(auto)]
+
 ghost use Rattle.std.specs.Prelude.{◌≡◌, ◌≤◌, length};
 ghost use Rattle.rules.specs.Buffers.{six};
 ghost use Rattle.object.specs.Meaning.{counts};
@@ -15,7 +17,7 @@ use object::Counts;
 use object_check::Checked;
 
 // A link, with the counts of its result; or its refusal, whose place is a row of the first object or 0, 0.
-#[derive(Drop)]
+#[derive(Clone, Copy)]
 pub enum Decision {
     Linked(Counts),
     Refused {

@@ -1,4 +1,6 @@
 // The labels of two objects: matched by name, with a note for each row of either, and then written as one table.
+#![tactic(auto)]
+
 ghost use Rattle.std.specs.Prelude.{◌≡◌, ◌+◌, ◌*◌, ◌≤◌, ◌<◌, length, get_or};
 ghost use Rattle.std.proofs.Math.Option.{some};
 ghost use Rattle.rules.specs.Objects.{address_of};
@@ -16,7 +18,7 @@ use link_notes::OPEN;
 use object_layout_labels::{NO_ADDRESS, put_label};
 
 // Which object has the next row of the result.
-#[derive(Drop)]
+#[derive(Clone, Copy)]
 enum Side {
     First,
     Second,
@@ -25,14 +27,14 @@ enum Side {
 }
 
 // What two labels of one name become: an address or OPEN; apart where both are defined, at different addresses.
-#[derive(Drop)]
+#[derive(Clone, Copy)]
 enum Joined {
     At(u32),
     Apart,
 }
 
 // The rows of the result; or the first object's row of a name that the second defines at another address.
-#[derive(Drop)]
+#[derive(Clone, Copy)]
 pub enum Matched {
     Rows(usize),
     Differs(usize),

@@ -1,4 +1,6 @@
 // What a link notes for each label row of an object that goes into it: the name's row in the result and its address there.
+#![tactic(auto)]
+
 ghost use Rattle.std.specs.Prelude.{◌≡◌, ◌+◌, ◌*◌, ◌<◌, length};
 ghost use Rattle.link_notes.specs.Notes.{note_row};
 

@@ -1,4 +1,6 @@
 // The relocations of two objects that stay open in their link: counted, and merged into one table.
+#![tactic(auto)]
+
 ghost use Rattle.std.specs.Prelude.{◌≡◌, ◌+◌, ◌*◌, ◌≤◌, ◌<◌, length, get_or};
 ghost use Rattle.rules.specs.Buffers.{lay};
 ghost use Rattle.object.specs.Decides.{Decides};

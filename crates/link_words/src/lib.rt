@@ -1,4 +1,6 @@
 // The words of a link's blocks settled: each relocation to a name that the result defines has that address written as its word.
+#![tactic(auto)]
+
 ghost use Rattle.std.specs.Prelude.{◌≡◌, ◌+◌, ◌*◌, ◌≤◌, ◌<◌, length, get_or};
 ghost use Rattle.rules.specs.Buffers.{tab, head_row};
 ghost use Rattle.link_notes.specs.Notes.{open_mark, carried, carried_rows};

@@ -1,4 +1,6 @@
 // The listing of a lent object, as a call: 42, 43, then 51 exactly when the bytes do not fit.
+#![tactic(auto)]
+
 ghost use Rattle.std.specs.Prelude.{◌≡◌, length};
 ghost use Rattle.rules.specs.Buffers.{six, Valid, view, zeros};
 ghost use Rattle.rules.specs.Listing.{listing};

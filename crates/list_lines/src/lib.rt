@@ -1,4 +1,6 @@
 // The lines of a listing, made and written one behind the other.
+#![tactic(auto)]
+
 ghost use Rattle.std.specs.Prelude.{◌≡◌, ◌++◌, ◌+◌, ◌<◌, ◌≤◌, length};
 ghost use Rattle.rules.specs.Base.{bytes};
 ghost use Rattle.rules.specs.Buffers.{cell_of};

@@ -1,4 +1,6 @@
 // The listing program on slices: what it prints for what was read of its input, left as bytes in a lent buffer.
+#![tactic(auto)]
+
 ghost use Rattle.std.specs.Prelude.{◌≡◌, true, false, List, ◌++◌, ℕ, ◌+◌, ◌≤◌, ◌<◌, length};
 ghost use Rattle.rules.specs.Base.{refuse, nowhere};
 ghost use Rattle.rules.specs.Buffers.{six, short, Valid, view};

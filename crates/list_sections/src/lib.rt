@@ -1,4 +1,6 @@
 // An object's blocks, labels and relocations as the bytes of their listing, one section behind the other.
+#![tactic(auto)]
+
 ghost use Rattle.std.specs.Prelude.{◌≡◌, ◌+◌, ◌*◌, ◌<◌, ◌≤◌, length, get_or};
 ghost use mathlib.Core.List.{flat_map};
 ghost use Rattle.rules.specs.Buffers.{BlocksOk, WordsOk, LabelsOk, view_blocks, view_labels, view_relocs, name_row, label_row, reloc_row};

@@ -1,4 +1,6 @@
 // An object in six lent buffers: its counts, what 42 asks of the buffers, and the rows of its tables read.
+#![tactic(auto)]
+
 ghost use Rattle.std.specs.Prelude.{◌≡◌, map, ◌+◌, ◌*◌, ◌≤◌, length, get_or};
 ghost use Rattle.rules.specs.Tokens.{upper};
 ghost use Rattle.rules.specs.Buffers.{six, short, least, lent_words, name_row, lab_row};
@@ -23,7 +25,7 @@ pub const RELOCATION_ROOM: usize = RELOCATIONS * RELOCATION_CELLS;
 pub const NAME_ROOM: usize = LABELS * NAME_BYTES;
 
 // Counts of blocks, words, labels and relocations. What stands in the six lent buffers up to these counts is the object.
-#[derive(Drop)]
+#[derive(Clone, Copy)]
 pub struct Counts {
     pub blocks: usize,
     pub words: usize,
@@ -32,14 +34,14 @@ pub struct Counts {
 }
 
 // What a label row says.
-#[derive(Drop)]
+#[derive(Clone, Copy)]
 pub enum Label {
     Defined(u32),
     External,
 }
 
 // Where a name stands among label rows, or the row where it belongs.
-#[derive(Drop)]
+#[derive(Clone, Copy)]
 pub enum Slot {
     Taken(usize),
     Free(usize),

@@ -1,11 +1,13 @@
 // The answers of calls: of one that makes an object, acceptance with the object's counts or a refusal with its two places; of one that writes bytes, how many.
+#![tactic(auto)]
+
 ghost use Rattle.std.specs.Prelude.{◌≡◌};
 ghost use Rattle.object_answer.specs.Meant.{accepting, counts_in, refusing};
 
 use object::Counts;
 
 // Number 0 is acceptance, with counts; any other is a refusal with its two places, and counts of 0.
-#[derive(Drop)]
+#[derive(Clone, Copy)]
 pub struct Answer {
     pub number: u16,
     pub start: usize,
@@ -19,7 +21,7 @@ pub struct Answer {
 }
 
 // What a call answers that writes an object as bytes: how many, or the number of the refusal, 42, 43 or 51. None of these has a place.
-#[derive(Drop)]
+#[derive(Clone, Copy)]
 pub enum Written {
     Bytes(usize),
     Refused(u16),

@@ -1,4 +1,6 @@
 // Whether lent buffers are an object: refusals 42 and 43.
+#![tactic(auto)]
+
 ghost use Rattle.rules.specs.Base.{ok};
 ghost use Rattle.rules.specs.Buffers.{six, Valid};
 ghost use Rattle.object.specs.Decides.{Decides};
@@ -9,7 +11,7 @@ ghost use Rattle.object_check.specs.Checked.{outcome};
 use object::Counts;
 
 // What the buffers are: an object, too short (42), or no object (43).
-#[derive(Drop)]
+#[derive(Clone, Copy)]
 pub enum Checked {
     Object,
     ShortBuffer,

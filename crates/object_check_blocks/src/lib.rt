@@ -1,4 +1,6 @@
 // What 43 demands of an object's blocks and words, and where the word of an address stands among them.
+#![tactic(auto)]
+
 ghost use Rattle.std.specs.Prelude.{◌≤◌, ◌<◌, length};
 ghost use Rattle.rules.specs.Buffers.{BlocksOk, WordRow, WordsOk, ZeroAt};
 ghost use Rattle.object.specs.Decides.{Decides};
@@ -11,7 +13,7 @@ use base_casts::wide16;
 const IO_START: usize = base_capacities::IO_START as usize;
 
 // Where a word stands.
-#[derive(Drop)]
+#[derive(Clone, Copy)]
 pub enum Place {
     At(usize),
     Nowhere,

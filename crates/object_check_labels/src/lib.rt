@@ -1,4 +1,6 @@
 // What 43 demands of an object's labels.
+#![tactic(auto)]
+
 ghost use Rattle.std.specs.Prelude.{◌≡◌, ◌+◌, ◌*◌, ◌≤◌, ◌<◌, length};
 ghost use Rattle.rules.specs.Tables.{Before};
 ghost use Rattle.rules.specs.Buffers.{LabelRow, LabelsOk};

@@ -1,4 +1,6 @@
 // What 43 demands of an object's relocations.
+#![tactic(auto)]
+
 ghost use Rattle.std.specs.Prelude.{◌+◌, ◌*◌, ◌≤◌, length};
 ghost use Rattle.rules.specs.Buffers.{RelocRow, RelocsOk};
 ghost use Rattle.object.specs.Decides.{Decides};

@@ -1,4 +1,6 @@
 // Six lent buffers cleared: what every call that makes an object leaves after a refusal.
+#![tactic(auto)]
+
 ghost use Rattle.std.specs.Prelude.{◌≡◌};
 ghost use Rattle.rules.specs.Objects.{nothing};
 ghost use Rattle.rules.specs.Buffers.{six, layout};

@@ -1,4 +1,6 @@
 // Labels written in the one layout of an object: one behind another as it stands, or all rows with their names in upper case, zeros behind.
+#![tactic(auto)]
+
 ghost use Rattle.std.specs.Prelude.{◌≡◌, map, ◌+◌, ◌*◌, ◌≤◌, length, get_or};
 ghost use Rattle.std.proofs.Math.Seq.{paste};
 ghost use Rattle.rules.specs.Tokens.{upper};

@@ -1,4 +1,6 @@
 // What a lent object says of a name, and which name it has at an address. `object::label_name` hands out a row's name.
+#![tactic(auto)]
+
 ghost use Rattle.std.specs.Prelude.{◌≡◌, map, ◌+◌, ◌*◌, ◌≤◌, length};
 ghost use Rattle.std.proofs.Math.Option.{some};
 ghost use Rattle.rules.specs.Base.{ok};
@@ -15,7 +17,7 @@ use object::{Counts, Label, Slot};
 use object_check::Checked;
 
 // What the object says of a name: defined at an address, external, or nothing; or a refusal, 42 or 43.
-#[derive(Drop)]
+#[derive(Clone, Copy)]
 pub enum Said {
     Defined(u32),
     External,
@@ -25,7 +27,7 @@ pub enum Said {
 }
 
 // The label row that answers for an address, or none; or a refusal, 42 or 43.
-#[derive(Drop)]
+#[derive(Clone, Copy)]
 pub enum Found {
     Row(usize),
     Nothing,

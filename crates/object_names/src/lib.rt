@@ -1,4 +1,6 @@
 // Names of labels: one label token in upper case, at most 64 bytes. Most names are told by their bytes; the lexer reads the others.
+#![tactic(auto)]
+
 ghost use Rattle.std.specs.Prelude.{◌≡◌, true, map};
 ghost use Rattle.rules.specs.Base.{same};
 ghost use Rattle.rules.specs.Tokens.{upper, next_token};

@@ -1,4 +1,6 @@
 // One statement at a time, from the source.
+#![tactic(auto)]
+
 ghost use Rattle.std.specs.Prelude.{◌≡◌, ◌+◌, ◌≤◌, ◌<◌, length};
 ghost use Rattle.rules.specs.Statements.{next_statement, statements};
 ghost use Rattle.lex_token.specs.Meant.{part};
@@ -15,7 +17,7 @@ use parse_rows::{Op, Row};
 // A statement: whether labels stand before it; what it does; its word or number as far as it is known; the number of values of its label operand's field (0: no label operand) and the
 // label's place; its string's place; its span, from the instruction or directive to the last operand; and where the next statement begins.
 // The labels themselves are not held: they are walked again from where the statement was looked for.
-#[derive(Drop)]
+#[derive(Clone, Copy)]
 pub struct Statement {
     pub labelled: bool,
     pub op: Op,
@@ -30,7 +32,7 @@ pub struct Statement {
     pub next: usize,
 }
 
-#[derive(Drop)]
+#[derive(Clone, Copy)]
 pub enum NextStatement {
     Read(Statement),
     End,
@@ -42,7 +44,7 @@ pub enum NextStatement {
 }
 
 // What reading all statements of a source answers.
-#[derive(Drop)]
+#[derive(Clone, Copy)]
 pub enum Statements {
     Accepted,
     Refused {

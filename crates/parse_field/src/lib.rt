@@ -1,4 +1,6 @@
 // One operand into its field: which tokens a field takes, their numbers and ranges (14, 15, 16), and what the operands read so far give together.
+#![tactic(auto)]
+
 ghost use Rattle.std.specs.Prelude.{◌≡◌, List, ℕ, ◌≤◌, ◌-◌, leb, length};
 ghost use Rattle.std.proofs.Math.Option.{none};
 ghost use Rattle.rules.specs.Base.{span};
@@ -13,7 +15,7 @@ use lex_token::Lexeme;
 
 // What may stand as an operand: a register at bits 9 to 11 or 6 to 8, a register or an imm5, an offset6, an offset9 or a label, an offset11 or a label,
 // a trap vector, a number of sixteen bits, what .fill takes, a label, a string.
-#[derive(Drop)]
+#[derive(Clone, Copy)]
 pub enum Field {
     Dr,
     Sr,
@@ -29,7 +31,7 @@ pub enum Field {
 }
 
 // The numbers of a field, from -low to high, kept modulo modulus; all 0 where the field takes no number.
-#[derive(Drop)]
+#[derive(Clone, Copy)]
 pub struct Range {
     pub low: u16,
     pub high: u16,
@@ -38,7 +40,7 @@ pub struct Range {
 
 // What operands give together: the word's bits, the number of values of the label operand's field (0: no label) and the label's place, the string's place,
 // and where the last operand ends.
-#[derive(Drop)]
+#[derive(Clone, Copy)]
 pub struct Given {
     pub bits: u32,
     pub reach: u32,
@@ -49,7 +51,7 @@ pub struct Given {
     pub stop: usize,
 }
 
-#[derive(Drop)]
+#[derive(Clone, Copy)]
 pub enum Step {
     Took(Given),
     Refused {

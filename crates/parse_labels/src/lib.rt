@@ -1,4 +1,6 @@
 // What stands before a statement's instruction or directive: newlines, and labels each with an optional colon.
+#![tactic(auto)]
+
 ghost use Rattle.std.specs.Prelude.{◌≡◌, ◌-◌};
 ghost use Rattle.rules.specs.Statements.{past_colon, past_lines};
 ghost use Rattle.base_text.specs.Runs.{run_end};
@@ -10,14 +12,14 @@ use lex::next_lexeme;
 use lex_token::Lexeme;
 
 // A label token of at most 64 bytes, or none.
-#[derive(Drop)]
+#[derive(Clone, Copy)]
 pub enum Label {
     At { start: usize, end: usize },
     Nothing,
 }
 
 // A label, and where to look for the next one.
-#[derive(Drop)]
+#[derive(Clone, Copy)]
 pub enum NextLabel {
     Label {
         start: usize,
@@ -28,7 +30,7 @@ pub enum NextLabel {
 }
 
 // Where labels end: the token that stands there, and whether there are labels at all.
-#[derive(Drop)]
+#[derive(Clone, Copy)]
 pub struct Walk {
     pub token: Lexeme,
     pub labelled: bool,

@@ -1,4 +1,6 @@
 // A statement's operands, one after another with commas between them.
+#![tactic(auto)]
+
 ghost use Rattle.std.specs.Prelude.{◌≡◌, ◌≤◌, ◌<◌, length};
 ghost use Rattle.parse_field.specs.Coded.{field_of, Adds, given};
 ghost use Rattle.parse_rows.specs.Rows.{fields_by};
@@ -10,7 +12,7 @@ use parse_field::{Field, Given, Step};
 use parse_rows::Row;
 
 // The place where an operand is due, or the refusal of what stands there instead of its comma.
-#[derive(Drop)]
+#[derive(Clone, Copy)]
 pub enum Due {
     At(usize),
     Refused {

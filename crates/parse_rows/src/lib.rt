@@ -1,4 +1,6 @@
 // The rows of instructions and directives: what a statement does, its word with all operands zero, and its operands.
+#![tactic(auto)]
+
 ghost use Rattle.std.specs.Prelude.{◌≡◌, map, ◌≤◌, ◌<◌, length};
 ghost use Rattle.rules.specs.Base.{same};
 ghost use Rattle.rules.specs.Tokens.{upper};
@@ -8,7 +10,7 @@ ghost use Rattle.parse_rows.specs.Rows.{digits_at, field_at, op_at, row_at, code
 use parse_field::Field;
 
 // What a statement does.
-#[derive(Drop)]
+#[derive(Clone, Copy)]
 pub enum Op {
     Instr,
     Orig,
@@ -20,7 +22,7 @@ pub enum Op {
 }
 
 // The word with all operands zero, how many operands there are, and the field of each. Fields past the count mean nothing.
-#[derive(Drop)]
+#[derive(Clone, Copy)]
 pub struct Row {
     pub op: Op,
     pub base: u16,

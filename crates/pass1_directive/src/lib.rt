@@ -1,4 +1,6 @@
 // Pass one at a statement's directive.
+#![tactic(auto)]
+
 ghost use Rattle.std.specs.Prelude.{ℕ};
 ghost use Rattle.rules.specs.Words.{external};
 ghost use Rattle.rules.specs.Words as Words;

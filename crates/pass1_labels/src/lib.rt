@@ -1,4 +1,6 @@
 // Pass one at names: they go into the symbol table, the labels before a statement at the counter, that of an .external at 0.
+#![tactic(auto)]
+
 ghost use Rattle.std.specs.Prelude.{◌≡◌, ◌+◌, ◌*◌, ◌≤◌, length, get_or};
 ghost use Rattle.std.proofs.Math.Option.{some};
 ghost use Rattle.rules.specs.Base.{span};
@@ -19,7 +21,7 @@ use pass1_state::{Pass1State, Pass1Step};
 use pass1_symbols::Added;
 
 // The table has so many rows, with what was added; or the refusal with its number and both spans.
-#[derive(Drop)]
+#[derive(Clone, Copy)]
 pub enum LabelsAdded {
     Held(usize),
     Refused(Refusal),

@@ -1,4 +1,6 @@
 // The relocations while pass one finds them: rows of address, 0, and the name's start and length in the source, by address.
+#![tactic(auto)]
+
 ghost use Rattle.std.specs.Prelude.{◌≡◌, ◌+◌, ◌*◌, ◌≤◌, ◌<◌, length, get_or, set};
 ghost use Rattle.rules.specs.Buffers.{lay, row_of, reloc_cells};
 ghost use Rattle.object.specs.Decides.{Decides};
@@ -10,7 +12,7 @@ use base_casts::narrow;
 use pass1_symbols::Row;
 
 // What becomes of a relocation: the table has so many rows, with it; or no row is left.
-#[derive(Drop)]
+#[derive(Clone, Copy)]
 pub enum Noted {
     Held(usize),
     Full,

@@ -1,4 +1,6 @@
 // What pass one keeps beside its tables, whatever changes it, and the steps that change no table: the counter's advance, .orig and .end.
+#![tactic(auto)]
+
 ghost use Rattle.std.specs.Prelude.{◌≡◌, ◌+◌, ◌-◌, ◌≤◌, ◌<◌};
 ghost use Rattle.rules.specs.Base.{span};
 ghost use Rattle.rules.specs.Words.{orig};
@@ -12,7 +14,7 @@ use base_casts::wide;
 use base_refusals::Refusal;
 
 // The open block's start, counter and .orig, where a block is open; the rows of both tables; and how many blocks with words are closed, with how many words.
-#[derive(Drop)]
+#[derive(Clone, Copy)]
 pub struct Pass1State {
     pub inside: bool,
     pub start: u32,
@@ -26,7 +28,7 @@ pub struct Pass1State {
 }
 
 // The state after a step, or the refusal with its number and both spans.
-#[derive(Drop)]
+#[derive(Clone, Copy)]
 pub enum Pass1Step {
     Went(Pass1State),
     Refused(Refusal),

@@ -1,4 +1,6 @@
 // The symbol table while pass one fills it: rows as an object's labels, but with each name's place in the source, by name in upper case.
+#![tactic(auto)]
+
 ghost use Rattle.std.specs.Prelude.{◌≡◌, map, ◌+◌, ◌*◌, ◌/◌, ◌%◌, ◌≤◌, length, get_or};
 ghost use Rattle.rules.specs.Tokens.{upper};
 ghost use Rattle.rules.specs.Tables.{map_t};
@@ -26,7 +28,7 @@ pub const SYMBOL_CELLS: usize = KEYS + base_capacities::LABELS * KEY_CELLS;
 const CELL: u64 = 0x1_0000_0000;
 
 // What becomes of a name at an address: the table has so many rows, with it; row k has it at another address; or no row is left.
-#[derive(Drop)]
+#[derive(Clone, Copy)]
 pub enum Added {
     Held(usize),
     Clash(usize),
@@ -34,7 +36,7 @@ pub enum Added {
 }
 
 // The row of a name that the table has.
-#[derive(Drop)]
+#[derive(Clone, Copy)]
 pub enum Row {
     At(usize),
     Nothing,

@@ -1,4 +1,6 @@
 // Pass two over all statements of a source.
+#![tactic(auto)]
+
 ghost use Rattle.std.specs.Prelude.{◌≡◌};
 ghost use Rattle.pass2.specs.Passing.{fresh, Passing, PassedTwo};
 

@@ -1,4 +1,6 @@
 // The closed blocks of pass two, by start: rows of start and length beside rows of their .orig places, and their words one after another.
+#![tactic(auto)]
+
 ghost use Rattle.std.specs.Prelude.{◌≡◌, ◌+◌, ◌*◌, ◌≤◌, ◌<◌, length, get_or};
 ghost use Rattle.rules.specs.Passes.{ranges_overlap};
 ghost use Rattle.pass2_blocks.specs.Rows.{row_in};
@@ -8,7 +10,7 @@ ghost use Rattle.pass2_blocks.specs.Placing.{Ready, InsertAt, InsertedAt, clash_
 use base_casts::wide16;
 
 // What becomes of a block: it is placed; or it overlaps another, and these are both .orig, the earlier first.
-#[derive(Drop)]
+#[derive(Clone, Copy)]
 pub enum Placing {
     Placed,
     Overlaps {
@@ -20,7 +22,7 @@ pub enum Placing {
 }
 
 // Where a block belongs: it overlaps a row; or it goes before a row, and its words to a place.
-#[derive(Drop)]
+#[derive(Clone, Copy)]
 pub enum Spot {
     Clash(usize),
     Free { row: usize, at: usize },

@@ -1,4 +1,6 @@
 // The one word of an instruction or a .fill in pass two.
+#![tactic(auto)]
+
 ghost use Rattle.std.specs.Prelude.{◌≡◌, ℕ, ◌+◌, ◌*◌, ◌≤◌, ◌<◌, length, get_or};
 ghost use Rattle.rules.specs.Words.{instr, fill};
 ghost use Rattle.rules.specs.Statements.{Stmt};
@@ -19,7 +21,7 @@ const VALUES9: u16 = 512;
 const VALUES11: u16 = 2048;
 
 // The word; or the refusal, at a label operand.
-#[derive(Drop)]
+#[derive(Clone, Copy)]
 pub enum Worded {
     Word(u16),
     Refused {

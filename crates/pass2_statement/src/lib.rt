@@ -1,4 +1,6 @@
 // A statement in pass two: its words behind those of the open block, an .orig, or an .end.
+#![tactic(auto)]
+
 ghost use Rattle.std.specs.Prelude.{◌≡◌, List, [], ◌∷◌, ℕ, ◌+◌, ◌<◌};
 ghost use Rattle.rules.specs.Objects.{word};
 ghost use Rattle.rules.specs.Statements.{Stmt};
@@ -17,7 +19,7 @@ use pass2_blocks::Placing;
 use pass2_words::Written;
 
 // The open block's start and .orig, where a block is open; how many blocks are closed, with how many words; and how many words are in use, those of the open block with them.
-#[derive(Drop)]
+#[derive(Clone, Copy)]
 pub struct Pass2State {
     pub inside: bool,
     pub start: u16,
@@ -29,7 +31,7 @@ pub struct Pass2State {
 }
 
 // The state after a step, or the refusal with its number and both spans.
-#[derive(Drop)]
+#[derive(Clone, Copy)]
 pub enum Pass2Step {
     Went(Pass2State),
     Refused(Refusal),

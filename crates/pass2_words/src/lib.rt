@@ -1,4 +1,6 @@
 // The words of a statement in pass two, each beside its mark, written behind those in use.
+#![tactic(auto)]
+
 ghost use Rattle.std.specs.Prelude.{◌≡◌, map, [], ◌∷◌, ◌++◌, ℕ, ◌+◌, ◌<◌, length};
 ghost use Rattle.rules.specs.Objects.{word};
 ghost use Rattle.rules.specs.Statements.{Stmt};
@@ -15,7 +17,7 @@ use parse_rows::Op;
 use pass2_encode::Worded;
 
 // The words in use are so many; or the refusal.
-#[derive(Drop)]
+#[derive(Clone, Copy)]
 pub enum Written {
     Upto(usize),
     Refused {

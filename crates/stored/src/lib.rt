@@ -1,4 +1,6 @@
 // A lent object into lent bytes, in its stored form, as a call: 42, 43, then 51 exactly when the bytes do not fit.
+#![tactic(auto)]
+
 ghost use Rattle.std.specs.Prelude.{◌≡◌, length};
 ghost use Rattle.rules.specs.Buffers.{six, Valid, view, zeros};
 ghost use Rattle.rules.specs.Stored.{stored};

@@ -1,4 +1,6 @@
 // Checking stored bytes: acceptance with the four counts, or 50 with its offset.
+#![tactic(auto)]
+
 ghost use Rattle.std.specs.Prelude.{◌≡◌, ◌≤◌, length};
 ghost use Rattle.rules.specs.Answers.{answer};
 ghost use Rattle.rules.specs.Stored as rule;

@@ -1,4 +1,6 @@
 // Fields of stored bytes: their tags and sizes by name, and heads, numbers, words and names written at a place.
+#![tactic(auto)]
+
 ghost use Rattle.std.specs.Prelude.{◌++◌, ◌+◌, ◌*◌, ◌≤◌, length};
 ghost use Rattle.rules.specs.Stored.{fin, block, run, sets, gap, pair, pairs};
 ghost use Rattle.list_lines.specs.Appended.{Appended};

@@ -1,4 +1,6 @@
 // The listing of a stored object as bytes: its stored form loaded into as many words as the listing program lends, and listed as the program does.
+#![tactic(auto)]
+
 ghost use Rattle.std.specs.Prelude.{◌≤◌, length};
 ghost use Rattle.list_print.specs.Program.{Wrote};
 ghost use Rattle.stored_list.specs.Stored.{stored_listing};

@@ -1,4 +1,6 @@
 // Loading: any bytes to an object in six lent buffers, or one refusal and every buffer zero.
+#![tactic(auto)]
+
 ghost use Rattle.std.specs.Prelude.{◌≡◌, false};
 ghost use Rattle.rules.specs.Buffers.{six, short};
 ghost use Rattle.stored_load.specs.Filling.{Fitting, PutFitting, Fillable, Lent, Came, Refuses, Settles};
@@ -11,7 +13,7 @@ use stored_put::put_field;
 use stored_walk::{Walk, Walked};
 
 // What the fields make: an object, which stands in the buffers if its words fit; or 50 at an offset.
-#[derive(Drop)]
+#[derive(Clone, Copy)]
 enum Filled {
     Whole(Counts),
     Broken(usize),

@@ -1,4 +1,6 @@
 // A field of stored bytes put into six lent buffers: what was read stands in the one layout of an object, zeros behind.
+#![tactic(auto)]
+
 ghost use Rattle.std.specs.Prelude.{◌≡◌, ◌+◌, ◌-◌, ◌*◌, ◌≤◌, ◌<◌, length};
 ghost use Rattle.std.proofs.Math.Seq.{paste};
 ghost use Rattle.rules.specs.Buffers.{six};

@@ -1,4 +1,6 @@
 // Fields of labels that follow one another in stored bytes, put into the lent labels and names while they are looked at, in plain numbers, since there are many.
+#![tactic(auto)]
+
 ghost use Rattle.std.specs.Prelude.{◌≡◌, ◌-◌};
 ghost use Rattle.stored_walk.specs.Walking.{Going};
 ghost use Rattle.stored_walk.specs.Behind.{NamedAt};

@@ -1,4 +1,6 @@
 // Reading stored bytes: the number at a place, the field at a position, and a field's content as a part of the bytes.
+#![tactic(auto)]
+
 ghost use Rattle.std.specs.Prelude.{◌≡◌, ◌+◌, ◌-◌, ◌≤◌, length};
 ghost use Rattle.rules.specs.Stored.{field_at};
 ghost use Rattle.laws_stored.specs.Offsets.{number_at, part_at};
@@ -8,7 +10,7 @@ use base_casts::{wide16, word8};
 use stored_fields::HEAD_BYTES;
 
 // What stands at a position: nothing, since the bytes end there; a field that is cut short; or a field, its tag and where its content begins and ends. The next field begins where the content ends.
-#[derive(Drop)]
+#[derive(Clone, Copy)]
 pub enum Field {
     Over,
     CutShort,

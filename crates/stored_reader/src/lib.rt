@@ -1,4 +1,6 @@
 // A small reader of stored bytes: it holds the lent bytes and a position, and gives one field at a time. Its functions are thin: each takes the struct apart, or makes it, and calls a function on the slice and the number.
+#![tactic(auto)]
+
 ghost use Rattle.std.specs.Prelude.{◌≡◌};
 ghost use Rattle.rules.specs.Stored.{field_at};
 ghost use Rattle.stored_read.specs.Told.{told, content_of};
@@ -6,14 +8,14 @@ ghost use Rattle.stored_reader.specs.Steps.{behind, stepped};
 
 use stored_read::{Field, content_of, field_at};
 
-#[derive(Drop)]
+#[derive(Clone, Copy)]
 pub struct Reader<'a> {
     pub bytes: &'a [u8],
     pub at: usize,
 }
 
 // What a step gives: the field, and the reader that stands behind it.
-#[derive(Drop)]
+#[derive(Clone, Copy)]
 pub struct Step<'a> {
     pub field: Field,
     pub rest: Reader<'a>,

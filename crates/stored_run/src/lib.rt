@@ -1,4 +1,6 @@
 // Fields of labels that follow one another in stored bytes, looked at in plain numbers, since there are many. What breaks the form is left to the step of the walk.
+#![tactic(auto)]
+
 ghost use Rattle.std.specs.Prelude.{◌≡◌, ◌+◌, ◌≤◌, length};
 ghost use Rattle.stored_read.proofs.Found.{Stands};
 ghost use Rattle.stored_walk.specs.Walking.{Going};

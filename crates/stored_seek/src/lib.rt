@@ -1,4 +1,6 @@
 // What a relocation asks of the fields before it: the word at its address, found by walking on through the runs, and the row of its name, found by halving.
+#![tactic(auto)]
+
 ghost use Rattle.std.specs.Prelude.{◌≡◌, true, ℕ, ◌+◌, ◌≤◌, length};
 ghost use Rattle.rules.specs.Objects.{Name, Lab};
 ghost use Rattle.rules.specs.Stored.{State};
@@ -12,7 +14,7 @@ use stored_fields::{BLOCK, DEFINED_LABEL, EXTERNAL_LABEL, NUMBER_BYTES, SET_WORD
 use stored_read::Field;
 
 // Where a search for a word stopped: at the field of its run, whose first word has that address; and whether the word is set and 0.
-#[derive(Drop)]
+#[derive(Clone, Copy)]
 pub struct Sought {
     pub seen: usize,
     pub address: usize,
@@ -20,14 +22,14 @@ pub struct Sought {
 }
 
 // What one field tells the search: it goes on behind the field, where words begin at that address; or it ends there, and the word is set and 0, or not.
-#[derive(Drop)]
+#[derive(Clone, Copy)]
 enum Pace {
     Past { next: usize, address: usize },
     Here(bool),
 }
 
 // The row of a name: that of an external; or there is none such.
-#[derive(Drop)]
+#[derive(Clone, Copy)]
 pub enum Row {
     External(usize),
     Other,

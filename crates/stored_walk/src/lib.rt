@@ -1,4 +1,6 @@
 // The walk over stored bytes, one field at a time: whether a field may follow what was read, and how things stand behind it. Checking and loading share it.
+#![tactic(auto)]
+
 ghost use Rattle.std.specs.Prelude.{◌≡◌, true, List, ℕ, ◌+◌, ◌≤◌, ◌<◌, length};
 ghost use Rattle.rules.specs.Stored.{State};
 ghost use Rattle.stored_read.proofs.Found.{Stands};
@@ -21,7 +23,7 @@ use stored_seek::Row;
 // where the last ends; labels, name bytes and relocations read; the least address that the next relocation may have and the label row of the last;
 // and for the next one's word, from which field on it is to be looked for and at which address words begin there. What a field changes stands together,
 // and every number has the same width, so that a walk is copied without gaps.
-#[derive(Drop)]
+#[derive(Clone, Copy)]
 pub struct Walk {
     pub at: usize,
     pub previous: usize,
@@ -46,7 +48,7 @@ const SHORT: usize = 1;
 const SKIPPED: usize = 2;
 
 // How things stand behind a field that may follow; the counts of the object where x00 ends the bytes; or the offset of 50.
-#[derive(Drop)]
+#[derive(Clone, Copy)]
 pub enum Walked {
     On(Walk),
     Ended(Counts),

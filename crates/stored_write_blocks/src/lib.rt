@@ -1,4 +1,6 @@
 // Blocks as stored bytes: each block's field and the runs of its words, and how many bytes that is.
+#![tactic(auto)]
+
 ghost use Rattle.std.specs.Prelude.{◌≡◌, ◌+◌, ◌*◌, ◌≤◌, ◌<◌, length};
 ghost use Rattle.rules.specs.Buffers.{BlocksOk, WordsOk};
 ghost use Rattle.object.specs.Decides.{Decides};

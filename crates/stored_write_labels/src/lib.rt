@@ -1,4 +1,6 @@
 // Labels and relocations as stored bytes, and how many bytes that is.
+#![tactic(auto)]
+
 ghost use Rattle.std.specs.Prelude.{◌≡◌, ◌+◌, ◌*◌, ◌≤◌, ◌<◌, length, get_or};
 ghost use Rattle.rules.specs.Buffers.{LabelsOk, name_row, label_row, reloc_row};
 ghost use Rattle.list_lines.specs.Appended.{Appended};

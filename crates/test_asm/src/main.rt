@@ -1,4 +1,6 @@
 // Replays answers of assembling: each source of data/vectors_1.txt and vectors_2.txt into buffers of the sizes named there. Writes those that differ, and at the end how many were replayed.
+#![tactic(auto)]
+
 use libc::STDOUT_FILENO;
 use object_answer::Answer;
 use test_replay::Lacking;

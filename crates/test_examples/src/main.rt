@@ -1,5 +1,7 @@
 // The marked examples P1 to P10 of document 01, each assembled, or two of them linked, and printed; then some sources explained: an object with everything that a view shows, refusals in
 // places that are easy to underline wrongly, and each kind of note.
+#![tactic(auto)]
+
 use libc::STDOUT_FILENO;
 use object_answer::{Answer, Written};
 

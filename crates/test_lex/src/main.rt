@@ -1,4 +1,6 @@
 // Replays token vectors against the lexer, writes those that differ, and at the end how many were replayed.
+#![tactic(auto)]
+
 use base_casts::{wide8, word8};
 use lex_literals::StringChar;
 use lex_reserved::Ident;
@@ -8,7 +10,7 @@ use libc::STDOUT_FILENO;
 use std::num::{wrapping_add_u16, wrapping_add_usize};
 
 // An answer of a vector, as data/README.md says: its sort and value, its span, and how many bytes its text has with their checksum.
-#[derive(Drop)]
+#[derive(Clone, Copy)]
 struct Row {
     sort: u8,
     value: u16,
@@ -19,7 +21,7 @@ struct Row {
 }
 
 // A text's length and checksum.
-#[derive(Drop)]
+#[derive(Clone, Copy)]
 struct Sum {
     count: usize,
     one: u16,
@@ -221,7 +223,7 @@ fn vector_right(data: &[u8], at: usize, rows: usize, src: &[u8]) -> bool {
 }
 
 // How a vector begins: the lengths of its source's parts, and how many rows it has.
-#[derive(Drop)]
+#[derive(Clone, Copy)]
 struct Header {
     head: usize,
     byte: u8,

@@ -1,5 +1,7 @@
 // Replays answers of linking: the sources of each line of data/vectors.txt assembled and linked in its order and grouping, the last link into buffers of the sizes named there. Writes
 // those that differ, and at the end how many were replayed.
+#![tactic(auto)]
+
 use libc::STDOUT_FILENO;
 use object_answer::Answer;
 use std::num::wrapping_add_usize;
@@ -15,7 +17,7 @@ const SOURCE: usize = 16384;
 const FILE: usize = 327680;
 
 // What a source or a link answers, and where the field after it begins.
-#[derive(Drop)]
+#[derive(Clone, Copy)]
 struct Told {
     answer: Answer,
     next: usize,

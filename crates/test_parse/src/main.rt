@@ -1,10 +1,12 @@
 // Replays statement vectors against the statement reader, writes those that differ, and at the end how many were replayed.
+#![tactic(auto)]
+
 use base_casts::wide16;
 use libc::STDOUT_FILENO;
 use parse::Statements;
 
 // A refusal by its number and place, or three zeros.
-#[derive(Drop)]
+#[derive(Clone, Copy)]
 struct Answer {
     number: usize,
     start: usize,

@@ -1,5 +1,7 @@
 // What the programs that replay answers share: the fields of an answer read, an answer and its object held to them, and a source assembled into buffers that may lack some of
 // their full sizes.
+#![tactic(auto)]
+
 ghost use Rattle.std.specs.Prelude.{◌≡◌, ◌-◌, ◌%◌, ◌≤◌};
 ghost use Rattle.rules.specs.Buffers.{six};
 ghost use Rattle.test_replay.specs.Asked.{lacking_at, expected_at, same_answer};
@@ -9,7 +11,7 @@ use object::Counts;
 use object_answer::{Answer, Written};
 
 // How many numbers each lent buffer lacks of its full size, and where the field after them begins.
-#[derive(Drop)]
+#[derive(Clone, Copy)]
 pub struct Lacking {
     pub blocks: usize,
     pub words: usize,
@@ -21,7 +23,7 @@ pub struct Lacking {
 }
 
 // The answer that a line asks for, and where the field after it begins.
-#[derive(Drop)]
+#[derive(Clone, Copy)]
 pub struct Expected {
     pub answer: Answer,
     pub next: usize,

@@ -1,5 +1,7 @@
 // Replays answers of checking and loading stored bytes: those of each line of data/vectors.txt, loaded into buffers of the sizes named there. What is accepted is walked through field by field
 // with the small reader, and stored again. Writes the lines that differ, and at the end how many were replayed.
+#![tactic(auto)]
+
 use base_casts::wide8;
 use base_text::Order;
 use libc::STDOUT_FILENO;
@@ -19,7 +21,7 @@ const BYTES: usize = 73728;
 const FILE: usize = 327680;
 
 // What the fields up to a place have told.
-#[derive(Drop)]
+#[derive(Clone, Copy)]
 struct Met {
     at: usize,
     blocks: usize,

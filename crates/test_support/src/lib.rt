@@ -1,4 +1,6 @@
 // What the programs that replay vectors share: fields of a line of text read, a source written, and a difference told.
+#![tactic(auto)]
+
 ghost use Rattle.std.specs.Prelude.{◌≡◌};
 ghost use Rattle.rules.specs.Base.{same};
 ghost use Rattle.view_text.specs.Put.{Put};
@@ -11,14 +13,14 @@ use base_text::Class;
 use view_text::put_byte;
 
 // A number that was read, and the place after it.
-#[derive(Drop)]
+#[derive(Clone, Copy)]
 pub struct Taken {
     pub value: usize,
     pub next: usize,
 }
 
 // Hexadecimal digits from a place up to another, and where the next field begins.
-#[derive(Drop)]
+#[derive(Clone, Copy)]
 pub struct Part {
     pub start: usize,
     pub stop: usize,

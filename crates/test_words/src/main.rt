@@ -1,4 +1,6 @@
 // Goes through all 65,536 words: disassembles each, encodes it again, and compares what it disassembles to with a stored list.
+#![tactic(auto)]
+
 ghost use Rattle.std.specs.Prelude.{◌<◌};
 
 use isa::disassembly::Line;
@@ -11,7 +13,7 @@ const NAMES: [u8; 130] =
     *b"ADD  AND  BR   JMP  JSR  JSRR LD   LDI  LDR  LEA  NOT  RET  RTI  ST   STI  STR  TRAP NOP  GETC OUT  PUTC PUTS IN   PUTSPHALT .FILL";
 
 // A line of disassembly in the columns of the list: a name's place among these, the operands at bits 9 to 11 and 6 to 8, the last operand.
-#[derive(Drop)]
+#[derive(Clone, Copy)]
 struct Row {
     name: u8,
     first: u8,
@@ -21,7 +23,7 @@ struct Row {
 }
 
 // What is counted so far.
-#[derive(Drop)]
+#[derive(Clone, Copy)]
 struct Counts {
     words: u32,
     instructions: u32,

@@ -1,4 +1,6 @@
 // What is due at a place of a statement: an instruction or a directive, a comma, the end of the line, or an operand by its field.
+#![tactic(auto)]
+
 ghost use Rattle.std.specs.Prelude.{◌≡◌, [], ◌∷◌, ℕ, ◌≤◌, length};
 ghost use Rattle.rules.specs.Base.{nowhere};
 ghost use Rattle.rules.specs.Statements.{labels_at};
@@ -16,7 +18,7 @@ use parse_labels::NextLabel;
 use parse_rows::Row;
 
 // What is due: an instruction or a directive, the name of a directive, a comma, the end of the line, or what this field takes.
-#[derive(Drop)]
+#[derive(Clone, Copy)]
 pub enum Due {
     Statement,
     Directive,
@@ -26,14 +28,14 @@ pub enum Due {
 }
 
 // What is due, or where the next operand stands.
-#[derive(Drop)]
+#[derive(Clone, Copy)]
 pub enum Onward {
     Found(Due),
     Next(usize),
 }
 
 // From `start` up to `end`; 0, 0 is no place.
-#[derive(Drop)]
+#[derive(Clone, Copy)]
 pub struct Place {
     pub start: usize,
     pub end: usize,

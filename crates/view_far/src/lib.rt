@@ -1,4 +1,6 @@
 // The note of a label operand that does not reach its label: how far the label is, and how far the operand reaches.
+#![tactic(auto)]
+
 ghost use Rattle.std.specs.Prelude.{◌≡◌, List, ℕ, ◌+◌, ◌-◌, ◌≤◌, ◌<◌, length};
 ghost use Rattle.rules.specs.Base.{ok};
 ghost use Rattle.rules.specs.Words.{offset};
@@ -16,14 +18,14 @@ use parse_rows::Op;
 use view_text::{put, put_byte, put_count};
 
 // What is looked for: the instruction whose label operand begins at a place, or the statement behind a label of the name between two places.
-#[derive(Drop)]
+#[derive(Clone, Copy)]
 pub enum Sought {
     Operand(usize),
     Label { start: usize, end: usize },
 }
 
 // The statement, with its address.
-#[derive(Drop)]
+#[derive(Clone, Copy)]
 pub enum Found {
     At(Statement, u32),
     Nothing,

@@ -1,4 +1,6 @@
 // A line of disassembly as a person reads it, and how far it reaches.
+#![tactic(auto)]
+
 ghost use Rattle.std.specs.Prelude.{◌≡◌, ◌+◌, ◌%◌, [], ◌∷◌, ◌++◌};
 ghost use Rattle.isa.specs.Instructions.{operand_of, meant};
 ghost use Rattle.isa.specs.Disassembly.{meant_line};
@@ -13,14 +15,14 @@ use isa::{AsmInstr, ImmOrReg};
 use view_text::{put, put_byte};
 
 // How far from the next word an instruction reaches, if it does.
-#[derive(Drop)]
+#[derive(Clone, Copy)]
 pub enum Reach {
     Offset(u16),
     Nothing,
 }
 
 // An instruction's operands: registers, a number, an offset from the next word, a trap's vector.
-#[derive(Drop)]
+#[derive(Clone, Copy)]
 enum Operands {
     Nothing,
     Reg(u16),

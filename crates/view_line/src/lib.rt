@@ -1,4 +1,6 @@
 // The line of a place in a source, as text for a terminal: the line, or a window of a long one, and carets under the place.
+#![tactic(auto)]
+
 ghost use Rattle.std.specs.Prelude.{◌≡◌, map, ◌-◌, ◌≤◌, min, length};
 ghost use Rattle.view_text.specs.Put.{Put};
 ghost use Rattle.view_line.specs.Shown.{shown_byte, under_byte, window_start, window_stop, between, shown_line, carets, caret_line, underlined};

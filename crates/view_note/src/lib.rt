@@ -1,4 +1,6 @@
 // A note under a refused place: what was due there, what the operand takes and what stands there, or how far its label is.
+#![tactic(auto)]
+
 ghost use Rattle.std.specs.Prelude.{◌≤◌, length, ◌≡◌};
 ghost use Rattle.parse_field.specs.Coded.{field_of};
 ghost use Rattle.view_text.specs.Put.{Put};

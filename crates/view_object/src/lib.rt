@@ -1,4 +1,6 @@
 // An object as a person sees it, in pieces of text: what it has, each word beside its label and its disassembly, and the labels at no word.
+#![tactic(auto)]
+
 ghost use Rattle.std.specs.Prelude.{◌≡◌, ◌+◌, ◌*◌, ◌%◌, min, ◌++◌, slice_index};
 ghost use Rattle.rules.specs.Buffers.{six};
 ghost use Rattle.object.specs.Meaning.{counts};
@@ -24,7 +26,7 @@ pub const PIECE_BYTES: usize = 98304;
 const BLOCK_START: usize = 0;
 
 // Where a word stands: its block's start and length, and how many words of the block come before it.
-#[derive(Drop)]
+#[derive(Clone, Copy)]
 enum Place {
     In(u16, u16, u16),
     Nowhere,

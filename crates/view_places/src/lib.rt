@@ -1,4 +1,6 @@
 // What a person is told of a refusal: its name, and the line and column of its place.
+#![tactic(auto)]
+
 ghost use Rattle.std.specs.Prelude.{◌≡◌, ◌≤◌, ◌<◌, length};
 ghost use Rattle.view_places.specs.Lines.{feed, feeds, moved, since, line_start, ends_line, line_stop};
 ghost use Rattle.view_places.specs.Names.{name_row};

@@ -1,4 +1,6 @@
 // A refusal as a person reads it, as text in a lent buffer: the file, the line and the column, its number and name, what it means, and each of its places underlined, with what was due there.
+#![tactic(auto)]
+
 ghost use Rattle.std.specs.Prelude.{◌≡◌, ◌≤◌, length};
 ghost use Rattle.rules.specs.Answers.{refusal_name};
 ghost use Rattle.rules.specs.Tokens.{while};

@@ -1,4 +1,6 @@
 // What a person is told of stored bytes that break the form: the offset of the field, and what stands there.
+#![tactic(auto)]
+
 ghost use Rattle.std.specs.Prelude.{◌≡◌};
 ghost use Rattle.view_text.specs.Put.{Put};
 ghost use Rattle.view_stored.specs.Broken.{tag_text, field_text, ends_at, wrong_text, offset_text, broken_text};

@@ -1,4 +1,6 @@
 // A line of text for a terminal, written from the front into a lent buffer; what does not fit is left out.
+#![tactic(auto)]
+
 ghost use Rattle.std.specs.Prelude.{◌≡◌, [], ◌∷◌, ◌-◌};
 ghost use Rattle.view_text.specs.Put.{Put};
 ghost use Rattle.view_text.specs.Texts.{spaces, gap, decimal, counted, hex_text, hex_text2};

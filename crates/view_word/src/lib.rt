@@ -1,4 +1,6 @@
 // A word of an object as a person sees it, as text in a lent buffer: its address, itself, its label and its disassembly; and the label rows at an address.
+#![tactic(auto)]
+
 ghost use Rattle.std.specs.Prelude.{◌≡◌, ◌+◌, ◌-◌, ◌*◌, ◌%◌, slice_index};
 ghost use Rattle.std.proofs.Math.Option.{some};
 ghost use Rattle.view_text.specs.Put.{Put};

@@ -1,0 +1,16 @@
+-- `asm_second_half::write_object` meets its contract. Assumes nothing.
+use Rattle.asm_second_half.proofs.Making.{roomy, rooms, made-whole, made_none}
+use borrow.Author.Rules.{rules}
+use Rattle.asm_second_half.proofs.write_object.Goals as goal
+
+pub write_blocks-answer-requires : goal.write_blocks-answer-requires
+write_blocks-answer-requires c = roomy _ _ _ _ c.requires.0 _ _ _ _ _ _ c.requires.2 c.requires.1
+
+pub lay_tables-requires : goal.lay_tables-requires
+lay_tables-requires c = rooms _ _ _ _ c.requires.0 _ _ _ _ _ _ c.requires.2
+
+pub returns-in-Went : goal.returns-in-Went
+returns-in-Went c = made-whole _ _ _ _ c.requires.0 _ _ _ _ _ _ c.requires.2 _ _ _ (search rules) (search rules) (search rules) _ c.write_blocks-answer.ensures _ c.in-Went.is _ _ _ c.lay_tables.ensures.0 c.lay_tables.ensures.1
+
+pub returns-in-Refused : goal.returns-in-Refused
+returns-in-Refused c = made_none _ _ _ _ c.requires.0 _ _ _ _ _ _ c.requires.2 _ _ _ (search rules) (search rules) (search rules) _ c.write_blocks-answer.ensures _ c.in-Refused.is _ c.clear.ensures

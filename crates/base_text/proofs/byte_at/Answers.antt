@@ -1,0 +1,7 @@
+-- `base_text::byte_at` meets its contract. Assumes nothing.
+use mathlib.Core.Path.{sym}
+use lib.ListN.{get_or-eq_default}
+use Rattle.base_text.proofs.byte_at.Goals as goal
+
+pub returns-else-i-src : goal.returns-else-i-src
+returns-else-i-src c = sym (get_or-eq_default c.args.src.now 0 c.if-i-src.false)

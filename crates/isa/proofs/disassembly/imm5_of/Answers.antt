@@ -1,0 +1,5 @@
+-- `imm5_of` meets its contract. Assumes nothing.
+use Rattle.isa.proofs.disassembly.imm5_of.Goals as goal
+
+pub returns : goal.returns
+returns c = c.sign_extend.ensures

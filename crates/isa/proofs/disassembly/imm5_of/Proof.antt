@@ -1,9 +1,0 @@
--- `imm5_of` meets its contract. Assumes nothing.
-use borrow.Author.Rules.{rules}
-use Rattle.rules.specs.Words.{extend}
-use Rattle.isa.proofs.disassembly.imm5_of.Statement.{statement}
-use Rattle.isa.proofs.disassembly.imm5_of.Tie as tie
-
-pub imm5-of-spec : {M : Type 1} → statement M
-unfolding extend
-imm5-of-spec = tie.close (tie.spec (λ c κs. search rules) (λ c. c.sign-extend.ensures))

@@ -1,0 +1,5 @@
+-- `offset11_of` meets its contract. Assumes nothing.
+use Rattle.isa.proofs.disassembly.offset11_of.Goals as goal
+
+pub returns : goal.returns
+returns c = c.sign_extend.ensures

@@ -1,0 +1,104 @@
+-- `lex_reserved::slot_row` meets its contract. Assumes nothing.
+use mathlib.Core.Path.{sym, ap}
+use Rattle.lex_reserved.specs.Slots.{slot_row}
+use Rattle.lex_reserved.proofs.Slots.{no_word}
+use Rattle.lex_reserved.proofs.slot_row.Goals as goal
+
+pub returns-in-10 : goal.returns-in-10
+returns-in-10 c = sym (ap slot_row c.in-10.is)
+
+pub returns-in-20 : goal.returns-in-20
+returns-in-20 c = sym (ap slot_row c.in-20.is)
+
+pub returns-in-19 : goal.returns-in-19
+returns-in-19 c = sym (ap slot_row c.in-19.is)
+
+pub returns-in-12 : goal.returns-in-12
+returns-in-12 c = sym (ap slot_row c.in-12.is)
+
+pub returns-in-39 : goal.returns-in-39
+returns-in-39 c = sym (ap slot_row c.in-39.is)
+
+pub returns-in-61 : goal.returns-in-61
+returns-in-61 c = sym (ap slot_row c.in-61.is)
+
+pub returns-in-7 : goal.returns-in-7
+returns-in-7 c = sym (ap slot_row c.in-7.is)
+
+pub returns-in-47 : goal.returns-in-47
+returns-in-47 c = sym (ap slot_row c.in-47.is)
+
+pub returns-in-57 : goal.returns-in-57
+returns-in-57 c = sym (ap slot_row c.in-57.is)
+
+pub returns-in-58 : goal.returns-in-58
+returns-in-58 c = sym (ap slot_row c.in-58.is)
+
+pub returns-in-26 : goal.returns-in-26
+returns-in-26 c = sym (ap slot_row c.in-26.is)
+
+pub returns-in-34 : goal.returns-in-34
+returns-in-34 c = sym (ap slot_row c.in-34.is)
+
+pub returns-in-31 : goal.returns-in-31
+returns-in-31 c = sym (ap slot_row c.in-31.is)
+
+pub returns-in-41 : goal.returns-in-41
+returns-in-41 c = sym (ap slot_row c.in-41.is)
+
+pub returns-in-63 : goal.returns-in-63
+returns-in-63 c = sym (ap slot_row c.in-63.is)
+
+pub returns-in-54 : goal.returns-in-54
+returns-in-54 c = sym (ap slot_row c.in-54.is)
+
+pub returns-in-17 : goal.returns-in-17
+returns-in-17 c = sym (ap slot_row c.in-17.is)
+
+pub returns-in-24 : goal.returns-in-24
+returns-in-24 c = sym (ap slot_row c.in-24.is)
+
+pub returns-in-14 : goal.returns-in-14
+returns-in-14 c = sym (ap slot_row c.in-14.is)
+
+pub returns-in-6 : goal.returns-in-6
+returns-in-6 c = sym (ap slot_row c.in-6.is)
+
+pub returns-in-32 : goal.returns-in-32
+returns-in-32 c = sym (ap slot_row c.in-32.is)
+
+pub returns-in-46 : goal.returns-in-46
+returns-in-46 c = sym (ap slot_row c.in-46.is)
+
+pub returns-in-36 : goal.returns-in-36
+returns-in-36 c = sym (ap slot_row c.in-36.is)
+
+pub returns-in-9 : goal.returns-in-9
+returns-in-9 c = sym (ap slot_row c.in-9.is)
+
+pub returns-in-5 : goal.returns-in-5
+returns-in-5 c = sym (ap slot_row c.in-5.is)
+
+pub returns-in-50 : goal.returns-in-50
+returns-in-50 c = sym (ap slot_row c.in-50.is)
+
+pub returns-in-25 : goal.returns-in-25
+returns-in-25 c = sym (ap slot_row c.in-25.is)
+
+pub returns-in-1 : goal.returns-in-1
+returns-in-1 c = sym (ap slot_row c.in-1.is)
+
+pub returns-in-3 : goal.returns-in-3
+returns-in-3 c = sym (ap slot_row c.in-3.is)
+
+pub returns-in-8 : goal.returns-in-8
+returns-in-8 c = sym (ap slot_row c.in-8.is)
+
+pub returns-in-35 : goal.returns-in-35
+returns-in-35 c = sym (ap slot_row c.in-35.is)
+
+pub returns-in-49 : goal.returns-in-49
+returns-in-49 c = sym (ap slot_row c.in-49.is)
+
+pub returns-in_default : goal.returns-in_default
+returns-in_default c = no_word _ c.in_default.rest

@@ -1,0 +1,8 @@
+-- `lex_token::lex_signed_hex` meets its contract. Assumes nothing.
+use Rattle.rules.specs.Tokens.{hex_neg}
+use Rattle.lex_token.specs.Coded.{signed_kind, form_of}
+use Rattle.lex_token.proofs.lex_signed_hex.Goals as goal
+
+pub returns : goal.returns
+unfolding hex_neg signed_kind form_of
+returns c = c.lex_number.ensures

@@ -1,0 +1,45 @@
+-- `link::link` meets its contract. Assumes nothing.
+use mathlib.Core.Path.{sym, ◌∙◌}
+use Rattle.link.proofs.Ready.{link-ready, merge-ready, labels-ready, relocs-ready}
+use Rattle.link.proofs.Laid.{first-settles, second-settles, all_laid}
+use Rattle.link.proofs.Answering.{linked-refused, linked-made}
+use Rattle.link.proofs.link.Goals as goal
+
+pub merge_blocks-requires : goal.merge_blocks-requires
+merge_blocks-requires c = merge-ready (link-ready _ _ _ _ _ _ _ _ _ _ _ c.is_short-small.ensures c.lent_words-room.ensures c.decide-decision.ensures c.in-Linked.is)
+
+pub settle_words-requires : goal.settle_words-requires
+settle_words-requires c = first-settles (link-ready _ _ _ _ _ _ _ _ _ _ _ c.is_short-small.ensures c.lent_words-room.ensures c.decide-decision.ensures c.in-Linked.is) c.merge_blocks.ensures.blocks c.merge_blocks.ensures.words
+
+pub settle_words-requires-in-Linked : goal.settle_words-requires-in-Linked
+settle_words-requires-in-Linked c = second-settles (link-ready _ _ _ _ _ _ _ _ _ _ _ c.is_short-small.ensures c.lent_words-room.ensures c.decide-decision.ensures c.in-Linked.is) c.merge_blocks.ensures.blocks c.merge_blocks.ensures.words c.settle_words.ensures
+
+pub lay_labels-requires : goal.lay_labels-requires
+lay_labels-requires c = labels-ready (link-ready _ _ _ _ _ _ _ _ _ _ _ c.is_short-small.ensures c.lent_words-room.ensures c.decide-decision.ensures c.in-Linked.is)
+
+pub slice_bounds-merge_relocations-end : goal.slice_bounds-merge_relocations-end
+slice_bounds-merge_relocations-end c = sym c.decide-decision.auto.1.1.1.1.1.1.1.1.1.1.1.1.1.1.1.1.0
+
+pub slice_bounds-merge_relocations-end-in-Linked : goal.slice_bounds-merge_relocations-end-in-Linked
+slice_bounds-merge_relocations-end-in-Linked c = sym c.decide-decision.auto.1.1.1.1.1.1.1.1.1.1.1.1.1.1.1.1.1.0
+
+pub merge_relocations-requires : goal.merge_relocations-requires
+merge_relocations-requires c = relocs-ready (link-ready _ _ _ _ _ _ _ _ _ _ _ c.is_short-small.ensures c.lent_words-room.ensures c.decide-decision.ensures c.in-Linked.is)
+
+pub returns-in-Refused : goal.returns-in-Refused
+returns-in-Refused c = linked-refused _ _ _ _ _ _ _ _ _ _ _ _ _ c.is_short-small.ensures c.lent_words-room.ensures c.decide-decision.ensures c.in-Refused.is _ c.clear.ensures _ c.refusal.ensures
+
+pub shape_of-blocks-in-Linked : goal.shape_of-blocks-in-Linked
+shape_of-blocks-in-Linked c = c.merge_blocks.auto.1.1.1.1.1.1.1.1.0
+
+pub shape_of-words-in-Linked : goal.shape_of-words-in-Linked
+shape_of-words-in-Linked c = c.settle_words-in-Linked.auto.1.1.1.1.1.0 ∙ (c.settle_words.auto.1.1.1.1.1.0 ∙ c.merge_blocks.auto.1.1.1.1.1.1.1.1.1.0)
+
+pub shape_of-marks-in-Linked : goal.shape_of-marks-in-Linked
+shape_of-marks-in-Linked c = c.merge_blocks.auto.1.1.1.1.1.1.1.1.1.1.0
+
+pub returns-in-Linked : goal.returns-in-Linked
+returns-in-Linked c = 
+    linked-made (link-ready _ _ _ _ _ _ _ _ _ _ _ c.is_short-small.ensures c.lent_words-room.ensures c.decide-decision.ensures c.in-Linked.is) _ _ c.acceptance.ensures
+    (all_laid (link-ready _ _ _ _ _ _ _ _ _ _ _ c.is_short-small.ensures c.lent_words-room.ensures c.decide-decision.ensures c.in-Linked.is) c.merge_blocks.ensures.blocks c.merge_blocks.ensures.words c.settle_words.ensures c.settle_words-in-Linked.ensures
+    c.merge_blocks.ensures.marks c.lay_labels.ensures c.merge_relocations.ensures)

@@ -1,0 +1,11 @@
+-- `link_labels::lay_labels` meets its contract. Assumes nothing.
+use lib.ListN.{length}
+use Rattle.object_layout_labels.proofs.Loop.{blank_of, laid-after}
+use Rattle.link_labels.proofs.Laying.{ready-after}
+use Rattle.link_labels.proofs.lay_labels.Goals as goal
+
+pub lay_rows-requires : goal.lay_rows-requires
+lay_rows-requires c = (ready-after c.requires c.zero_u32.ensures c.zero_u8.ensures, blank_of (length c.args.labels.now) c.zero_u32.ensures, blank_of (length c.args.names.now) c.zero_u8.ensures)
+
+pub returns : goal.returns
+returns c = laid-after c.lay_rows.ensures c.zero_u32.ensures c.zero_u8.ensures

@@ -1,0 +1,13 @@
+-- `link_relocations::put_open` meets its contract. Assumes nothing.
+use Rattle.link_relocations.proofs.Sieved.{room_open, after-stays, after-goes, left-stays, left-goes}
+use borrow.Author.Rules.{rules}
+use Rattle.link_relocations.proofs.put_open.Goals as goal
+
+pub row_u32-requires : goal.row_u32-requires
+row_u32-requires c = search (rules, room_open)
+
+pub returns-then-is_open : goal.returns-then-is_open
+returns-then-is_open c = (search (rules, after-stays), search (rules, left-stays))
+
+pub returns : goal.returns
+returns c = (search (rules, after-goes), search (rules, left-goes))

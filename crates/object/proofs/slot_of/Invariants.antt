@@ -1,0 +1,12 @@
+-- `object::slot_of` meets its contract. Assumes nothing.
+use Prim.Native.Nat.{◌-◌}
+use mathlib.Core.List.{map}
+use Rattle.rules.specs.Tokens.{upper}
+use Rattle.object.proofs.Halving.{Halving}
+use Rattle.object.proofs.slot_of.Given as goal
+
+abbrev pub invariant-loop-lo : goal.invariant-loop-lo
+invariant-loop-lo l = Halving l.labels l.names l.n (map upper l.name) l.lo l.hi
+
+abbrev pub decreases-loop-lo : goal.decreases-loop-lo
+decreases-loop-lo l = l.hi - l.lo

@@ -1,0 +1,16 @@
+-- `object_lookup::say_name` meets its contract. Assumes nothing.
+use Rattle.object_lookup.proofs.Rows.{rising, taken_in, said_row, said-nothing}
+use borrow.Author.Rules.{rules}
+use Rattle.object_lookup.proofs.say_name.Goals as goal
+
+pub slot_of-requires : goal.slot_of-requires
+slot_of-requires c = search (rules, rising)
+
+pub say-requires : goal.say-requires
+say-requires c = search (rules, taken_in)
+
+pub returns-in-Taken : goal.returns-in-Taken
+returns-in-Taken c = search (rules, said_row)
+
+pub returns-in-Free : goal.returns-in-Free
+returns-in-Free c = search (rules, said-nothing)

@@ -1,0 +1,16 @@
+-- `pass2_blocks::place_block` places a block as the rules do. Assumes nothing.
+use borrow.Author.Rules.{rules}
+use Rattle.pass2_blocks.proofs.Answers.{clash-row, spot-clashes, spot-free, spot-places}
+use Rattle.pass2_blocks.proofs.place_block.Goals as goal
+
+pub overlap_with-requires : goal.overlap_with-requires
+overlap_with-requires c = search (rules, clash-row)
+
+pub insert_block-requires : goal.insert_block-requires
+insert_block-requires c = search (rules, spot-free)
+
+pub returns-in-Clash : goal.returns-in-Clash
+returns-in-Clash c = search (rules, spot-clashes)
+
+pub returns-in-Free : goal.returns-in-Free
+returns-in-Free c = search (rules, spot-places)

@@ -1,0 +1,18 @@
+-- `stored_walk::step_named` meets its contract: a law for each return. Assumes nothing.
+use Rattle.stored_walk.proofs.Relocations.{relocs-less, reloc-listed, word-refused, reloc-taken, name-refused}
+use Rattle.stored_walk.proofs.step_named.Goals as goal
+
+pub seek_near-requires : goal.seek_near-requires
+seek_near-requires c = reloc-listed _ _ _ c.requires.0
+
+pub relocated-requires : goal.relocated-requires
+relocated-requires c = relocs-less _ _ c.requires.1.1
+
+pub returns-in-External : goal.returns-in-External
+returns-in-External c = reloc-taken _ _ _ _ _ _ c.requires.1.0 c.requires.1.1 _ c.seek_word-word.ensures c.if-word.true _ c.part_of-name.ensures _ c.seek_near.ensures _ c.in-External.is _ c.relocated.ensures
+
+pub returns-in-Other : goal.returns-in-Other
+returns-in-Other c = name-refused _ _ _ _ _ _ c.requires.1.0 c.requires.1.1 _ c.seek_word-word.ensures c.if-word.true _ c.part_of-name.ensures _ c.seek_near.ensures c.in-Other.is
+
+pub returns : goal.returns
+returns c = word-refused _ _ _ _ _ _ c.requires.1.0 c.requires.1.1 _ c.seek_word-word.ensures c.if-word.false

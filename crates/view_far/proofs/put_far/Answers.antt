@@ -1,0 +1,12 @@
+-- `view_far::put_far` meets its contract. Assumes nothing.
+use Rattle.view_far.proofs.FarTexts.{note-between, note-small, note-put, note-none}
+use Rattle.view_far.proofs.put_far.Goals as goal
+
+pub put_from-requires : goal.put_from-requires
+put_from-requires c = (note-between _ _ _ c.where_is.ensures _ _ c.in-At.is, note-small _ _ _ c.where_is.ensures _ _ c.in-At.is)
+
+pub returns-in-At : goal.returns-in-At
+returns-in-At c = note-put _ _ _ c.where_is.ensures _ _ c.in-At.is c.put_from.ensures
+
+pub returns-in-Nothing : goal.returns-in-Nothing
+returns-in-Nothing c = note-none _ _ _ c.where_is.ensures _ _ c.in-Nothing.is

@@ -1,0 +1,13 @@
+-- `view_far::put_from` meets its contract. Assumes nothing.
+use Rattle.view_far.proofs.FarTexts.{label_small, to-there, to_none}
+use borrow.Author.Rules.{rules}
+use Rattle.view_far.proofs.put_from.Goals as goal
+
+pub offset_from-requires : goal.offset_from-requires
+offset_from-requires c = (search rules, label_small _ c.args.st c.requires.0 _ c.where_is.ensures _ _ c.in-At.is)
+
+pub returns-in-At : goal.returns-in-At
+returns-in-At c = to-there _ c.args.st c.requires.0 _ c.where_is.ensures _ _ _ c.in-At.is c.offset_from.ensures.0 c.put_line.ensures
+
+pub returns-in-Nothing : goal.returns-in-Nothing
+returns-in-Nothing c = to_none _ c.args.st c.requires.0 _ c.where_is.ensures _ _ _ c.in-Nothing.is
