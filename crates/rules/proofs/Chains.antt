@@ -64,6 +64,7 @@ held_in (d ∷ b) x c q =
     go (inr p) ih = let w = ih p in (w.0, Memᴰ.tail w.1, w.2)
 
 pub in_held : (b : Table ℕ (List Cell)) (x : ℕ) (d : ℕ × List Cell) → Memᴰ d b → Within x d → (c : Cell) × (look nat_order (cells b) x ≡ some c)
+in_held [] x d m h = elim m [ ]
 in_held (e ∷ b) x d (Memᴰ.head q) h =
     let k : Within x e = rw q at h in
     let r = in-run e.0 e.1 x k.0 k.1 in
@@ -143,24 +144,31 @@ back-store h t cs p v y =
     ∙ rw (take-set-le h.1 cs (h.1 + p) v (let l : h.1 ≤ h.1 + p = omega arith in l), drop-set-add h.1 cs p v)
 
 -- the store of v at the word of x gives x the cell v, and leaves every other address
-pub store_same : (hs : Table ℕ ℕ) (cs : List Cell) (x p : ℕ) (v : Cell) → total hs ≤ length cs → Spot x hs p → look nat_order (cells (carve hs (set cs p v))) x ≡ some v
-store_same hs cs x p v l (here {h = h} {hs = t} {p = q} e k) =
+store_same_at : (x : ℕ) (hs : Table ℕ ℕ) (cs : List Cell) (p : ℕ) (v : Cell) → total hs ≤ length cs → Spot x hs p → look nat_order (cells (carve hs (set cs p v))) x ≡ some v
+store_same_at x hs cs p v l (here {h = h} {hs = t} {p = q} e k) =
     front-store h t cs q v k x
     ∙ ap (λ (u : Option Cell). or_else u (look nat_order (Back h t cs) x)) (rw e at (run-same h.0 (take h.1 cs) q v (omega (arith, length-take h.1 cs))))
-store_same hs cs x q v l (there {h = h} {hs = t} {p = p} n s e) =
+store_same_at x hs cs q v l (there {h = h} {hs = t} {p = p} n s e) =
     rw (← e)
     (back-store h t cs p v x
     ∙ (ap (λ (u : Option Cell). or_else u (look nat_order (cells (carve t (set (drop h.1 cs) p v))) x))
     (run_out h.0 (take h.1 cs) x h.1 (omega (arith, length-take h.1 cs)) n)
-    ∙ store_same t (drop h.1 cs) x p v (omega (arith, length-drop h.1 cs)) s))
+    ∙ store_same_at x t (drop h.1 cs) p v (omega (arith, length-drop h.1 cs)) s))
 
-pub store_other : (hs : Table ℕ ℕ) (cs : List Cell) (x p : ℕ) (v : Cell) (y : ℕ) → (y ≡ x → ⊥) → Spot x hs p
+pub store_same : (hs : Table ℕ ℕ) (cs : List Cell) (x p : ℕ) (v : Cell) → total hs ≤ length cs → Spot x hs p → look nat_order (cells (carve hs (set cs p v))) x ≡ some v
+store_same hs cs x p v = store_same_at x hs cs p v
+
+store_other_at : (x : ℕ) (hs : Table ℕ ℕ) (cs : List Cell) (p : ℕ) (v : Cell) (y : ℕ) → (y ≡ x → ⊥) → Spot x hs p
     → look nat_order (cells (carve hs (set cs p v))) y ≡ look nat_order (cells (carve hs cs)) y
-store_other hs cs x p v y n (here {h = h} {hs = t} {p = q} e k) =
+store_other_at x hs cs p v y n (here {h = h} {hs = t} {p = q} e k) =
     front-store h t cs q v k y
     ∙ (ap (λ (u : Option Cell). or_else u (look nat_order (Back h t cs) y)) (run-other h.0 (take h.1 cs) q v y (λ (d : y ≡ h.0 + q). n (d ∙ e)))
     ∙ sym (look-append nat_order (Front h cs) (Back h t cs) y))
-store_other hs cs x q v y n (there {h = h} {hs = t} {p = p} m s e) =
+store_other_at x hs cs q v y n (there {h = h} {hs = t} {p = p} m s e) =
     rw (← e)
     (back-store h t cs p v y
-    ∙ (ap (or_else (look nat_order (Front h cs) y)) (store_other t (drop h.1 cs) x p v y n s) ∙ sym (look-append nat_order (Front h cs) (Back h t cs) y)))
+    ∙ (ap (or_else (look nat_order (Front h cs) y)) (store_other_at x t (drop h.1 cs) p v y n s) ∙ sym (look-append nat_order (Front h cs) (Back h t cs) y)))
+
+pub store_other : (hs : Table ℕ ℕ) (cs : List Cell) (x p : ℕ) (v : Cell) (y : ℕ) → (y ≡ x → ⊥) → Spot x hs p
+    → look nat_order (cells (carve hs (set cs p v))) y ≡ look nat_order (cells (carve hs cs)) y
+store_other hs cs x p v = store_other_at x hs cs p v

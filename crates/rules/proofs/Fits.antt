@@ -101,6 +101,7 @@ blocks-ok o x w l =
     from_zero (e ∷ t) = (zero-le, from_zero t)
 
     full-mem : (b : Table ℕ (List Cell)) (d : ℕ × List Cell) → Full b → Memᴰ d b → 0 < length d.1
+    full-mem [] d f m = elim m [ ]
     full-mem (e ∷ b) d f (Memᴰ.head q) = rw q f.0
     full-mem (e ∷ b) d f (Memᴰ.tail m) = full-mem b d f.1 m
 

@@ -43,6 +43,7 @@ chain-carve (suc n) h y cs r l =
     (b.after, rw e b.filled, rw e (chain-carve n (next h) ((h 0).0 + (h 0).1) (drop (h 0).1 cs) (rows_next y n h r) (omega (arith, length-drop (h 0).1 cs))))
 
 end_low : (n : ℕ) (h : ℕ → ℕ × ℕ) (y : ℕ) (cs : List Cell) → ((k : ℕ) → k < n → BlockRow y h k) → (d : ℕ × List Cell) → Memᴰ d (carve (tab n h) cs) → d.0 + length d.1 ≤ 65024
+end_low zero h y cs r d m = elim m [ ]
 end_low (suc n) h y cs r d (Memᴰ.head q) =
     let b = r 0 (suc-le-suc zero-le) in
     rw q (omega (arith, b.low, length-take (h 0).1 cs))
