@@ -12,7 +12,7 @@ loop-k-init c = search (rules, rows_none)
 
 pub put_relocation-end-requires : goal.put_relocation-end-requires
 unfolding view_relocs
-put_relocation-end-requires c = 
+put_relocation-end-requires c =
     let low = c.requires.relocs_low.low _ c.loop-k-test.true in
     let room = row_fits reloc_line _ _ _ _ _ _ _ c.loop-k.invariant c.requires.names_in_bounds c.loop-k-test.true in
     search rules

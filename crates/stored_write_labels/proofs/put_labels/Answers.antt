@@ -11,7 +11,7 @@ pub loop-k-init : goal.loop-k-init
 loop-k-init c = search (rules, label-rows, fields-none)
 
 pub put_label-end-requires : goal.put_label-end-requires
-put_label-end-requires c = 
+put_label-end-requires c =
     let low = label-low _ _ _ _ c.requires.labels_ok c.loop-k-test.true in
     let place = (c.requires.labels_ok.rows _ c.loop-k-test.true).place in
     let short = label-short _ _ _ c.requires.labels_ok _ c.loop-k-test.true in
