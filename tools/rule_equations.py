@@ -5,26 +5,27 @@ usage: rule_equations.py FOLDER [--limit BYTES] [--count N], at the repository's
 
 FOLDER has sources NAME.asm, each with its answer NAME.exp: the listing, or REFUSED, the number and the four offsets of its two places.
 Sources above the limit (default 500 bytes) are left out, since the checker bounds the steps of a computation; --count takes that many at
-most. The equations stand in target/equations, a repository of its own; a false one is an error there that names its source.
+most. The equations stand in a repository of its own in a temporary folder, which is kept where one does not hold; a false one is an error there that
+names its source.
 """
 import argparse
 import pathlib
 import shutil
 import subprocess
 import sys
+import tempfile
 
 PER_FILE = 25
 HEAD = """-- Answers beside the rules. Assumes nothing.
-use mathlib.Core.List.{List, [], _∷_}
-use mathlib.Core.Path.{_≡_, refl}
-use Prim.Native.Nat.{ℕ}
-use Rattle·rules.specs.Base.{Outcome, ok, refused}
-use Rattle·rules.specs.Tokens.{lexing}
-use Rattle·rules.specs.Statements.{parsing}
-use Rattle·rules.specs.Tables.{sorting}
-use Rattle·rules.specs.Objects.{Object}
-use Rattle·rules.specs.Passes.{assemble, assembling}
-use Rattle·rules.specs.Listing.{listing, printing}
+use Rattle.std.specs.Prelude.{ℕ, ◌≡◌, List, [], ◌∷◌}
+use mathlib.Core.Path.{refl}
+use Rattle.rules.specs.Base.{Outcome, ok, refused}
+use Rattle.rules.specs.Tokens.{lexing}
+use Rattle.rules.specs.Statements.{parsing}
+use Rattle.rules.specs.Tables.{sorting}
+use Rattle.rules.specs.Objects.{Object}
+use Rattle.rules.specs.Passes.{assemble, assembling}
+use Rattle.rules.specs.Listing.{listing, printing}
 
 data Answer : Type 0 where
   lists : List ℕ → Answer
@@ -32,7 +33,7 @@ data Answer : Type 0 where
 
 unfoldable told : Outcome Object → Answer
 told (ok o) = lists (listing o)
-told (refused r) = refuses (r .number) (r .first .start) (r .first .stop) (r .second .start) (r .second .stop)
+told (refused r) = refuses r.number r.first.start r.first.stop r.second.start r.second.stop
 """
 
 
@@ -66,20 +67,24 @@ def main():
     rows = [equation("row-" + n.lower().replace("_", "-"), s, a) for n, s, a in chosen(o.folder, o.limit, o.count)]
     if not rows:
         sys.exit("rule_equations: no source with an answer within the limit")
-    here = pathlib.Path("target/equations")
-    shutil.rmtree(here, ignore_errors=True)
-    shutil.copytree("crates/rules", here / "crates/rules")
+    here = pathlib.Path(tempfile.mkdtemp(prefix="equations-"))
+    shutil.copytree("crates/rules", here / "crates/rules", ignore=shutil.ignore_patterns("out"))
     crate = here / "crates/equations"
     for part in ["src", "proofs"]:
         (crate / part).mkdir(parents=True)
     (here / "crates.txt").write_text("rules:\nequations: rules\n")
-    (crate / "src/lib.rt").write_text("// Equations alone.\n")
+    (crate / "src/lib.rt").write_text("// Equations alone.\n#![tactic(auto)]\n")
     parts = [rows[i:i + PER_FILE] for i in range(0, len(rows), PER_FILE)]
     for i, part in enumerate(parts):
         (crate / f"proofs/Part{i}.antt").write_text(HEAD + "".join(part))
     (crate / "proofs/Lib.antt").write_text("-- Equations. Assumes nothing.\n" + "".join(f"pub mod Part{i}\n" for i in range(len(parts))))
     print(f"{len(rows)} equations", flush=True)
-    sys.exit(subprocess.run(["rt", "check", "equations"], cwd=here).returncode)
+    status = subprocess.run(["rt", "check"], cwd=crate, check=False).returncode
+    if status:
+        print(f"rule_equations: they stand in {here}")
+    else:
+        shutil.rmtree(here)
+    sys.exit(status)
 
 
 if __name__ == "__main__":
