@@ -1,7 +1,7 @@
 #!/usr/bin/env python3
-"""Holds the person's view (target/bin/lc3_files) beside the listing, the kept answers of assembling and document 01's names.
+"""Holds the person's view (the program lc3_files) beside the listing, the kept answers of assembling and document 01's names.
 
-usage: view_check.py DOCUMENT-01, at the repository's root, after `rt check lc3_list lc3_files`
+usage: view_check.py DOCUMENT-01, at the repository's root, after `./lc3 test` or `rt run` in crates/lc3_list and crates/lc3_files
 
 Each source of crates/test_asm/data/vectors_1.txt and vectors_2.txt that was assembled into full buffers is explained: number, name, line, column,
 the line and the carets of each place; of an object every word, label, external and relocation. The program has room for 32,768 words, so
@@ -17,7 +17,7 @@ WIDTH = 100
 
 def run(program, src):
     words = ["explain", "-"] if program == "lc3_files" else []
-    done = subprocess.run(["tools/run_program", "target/bin/" + program, *words], input=src, capture_output=True, check=True)
+    done = subprocess.run(["tools/run_program", f"crates/{program}/out/{program}", *words], input=src, capture_output=True, check=True)
     return done.stdout.decode().split("\n")
 
 
