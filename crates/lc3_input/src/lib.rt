@@ -1,4 +1,5 @@
-// What the programs behind ./lc3 share: a file or standard input read into a lent buffer, an error told apart from its end, and the byte by which an answer is told to whoever runs the program.
+// What the programs share: a file or standard input read into a lent buffer, an error told apart from its end, a file told that cannot be opened, and the byte by which an answer is told to
+// whoever runs ./lc3.
 #![tactic(auto)]
 
 ghost use Rattle.std.specs.Prelude.{◌≡◌};
@@ -6,7 +7,7 @@ ghost use Rattle.io.specs.Counts.{IsPrefixLen};
 ghost use Rattle.lc3_input.specs.Held.{Held, first_of, status_of};
 
 use std::fs::{File, Files};
-use std::io::{Input as StandardInput, Read};
+use std::io::{Eprint, Error, Input as StandardInput, Read};
 
 // What an input was: all of it, so many bytes at the front of the buffer; longer than the buffer; or not to be read to its end.
 #[derive(Clone, Copy)]
@@ -15,6 +16,11 @@ pub enum Input {
     Longer,
     Failed,
 }
+
+// The descriptors that a program writes to.
+pub const STDOUT_FILENO: i32 = 1;
+
+pub const STDERR_FILENO: i32 = 2;
 
 // Where ./lc3 waits for the answer.
 pub const STATUS_FILENO: i32 = 3;
@@ -36,7 +42,7 @@ pub fn status_of(accepted: bool) -> u8
     REFUSED
 }
 
-// An open file into the buffer, until it is full, the input ends or a read fails: how many bytes.
+// An open file into the buffer, until it is full, the input ends or a read fails: how many bytes it put there.
 pub fn fill<R: Read>(file: &mut R, buffer: &mut [u8]) -> usize
     ensures { IsPrefixLen result buffer.new }
 {
@@ -99,6 +105,11 @@ fn read_named<R: Files>(rt: &R, name: &str, buffer: &mut [u8]) -> Input
         Ok(mut file) => read_input(&mut file, buffer),
         Err(_) => Input::Failed,
     }
+}
+
+// Tells on standard error that a file could not be opened, and why.
+pub fn tell_unopened<R: Eprint>(rt: &R, path: &str, error: Error) {
+    let _ = eprintln!(rt; "{path}: {error}");
 }
 
 // The first n bytes, as far as they are there.
