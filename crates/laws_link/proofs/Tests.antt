@@ -48,6 +48,7 @@ shared-heads a b = outside a.blocks
     outside (x ∷ s) = let p = inside x b.blocks in let q = outside s in λ i. p i || q i
 
 full-mem : (b : Table ℕ (List Cell)) (d : ℕ × List Cell) → Full b → Memᴰ d b → 0 < length d.1
+full-mem [] d f xp = elim xp [ ]
 full-mem (e ∷ b) d f (Memᴰ.head q) = rw q f.0
 full-mem (e ∷ b) d f (Memᴰ.tail m) = full-mem b d f.1 m
 

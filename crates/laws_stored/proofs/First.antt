@@ -65,24 +65,30 @@ refusal-stops b (suc k) s at i l e = go (met b at) (λ n z m. refusal-stops b k 
         (h (next s j) z (omega (arith, (found-extent b at j z d).after)))
 
 -- and whatever stops so is refused there
-pub stops-refusal : (b : List ℕ) (k : ℕ) (s : State) (at i : ℕ) → length b ≤ at + k → Stops b i s at → read_from b k s at ≡ broken i
-stops-refusal b k s at i l (breaks (missing d)) = read-over b k s i d
-stops-refusal b k s at i l (breaks (halved d)) = read_short b k s i d
-stops-refusal b k s at i l (breaks (mute d)) = read-mute b k s i d
-stops-refusal b zero s at i l (breaks (misplaced j z d m)) = read_none b s i
-stops-refusal b (suc k) s at i l (breaks (misplaced j z d m)) = read-item b k s i j z d ∙ rw m refl
-stops-refusal b zero s at i l (behind j d m f n) = let x = found-extent b at j i d in absurd (omega (arith, x.after, x.within))
-stops-refusal b (suc k) s at i l (behind j d m f n) = read-item b k s at j i d ∙ rw (m, f, ne_eqb i (length b) n) refl
-stops-refusal b zero s at i l (later j z d m f h) = let x = found-extent b at j z d in absurd (omega (arith, x.after, x.within))
-stops-refusal b (suc k) s at i l (later j z d m f h) =
+stops-refusal_at : (b : List ℕ) (i : ℕ) (k : ℕ) (s : State) (at : ℕ) → length b ≤ at + k → Stops b i s at → read_from b k s at ≡ broken i
+stops-refusal_at b i k s at l (breaks (missing d)) = read-over b k s i d
+stops-refusal_at b i k s at l (breaks (halved d)) = read_short b k s i d
+stops-refusal_at b i k s at l (breaks (mute d)) = read-mute b k s i d
+stops-refusal_at b i zero s at l (breaks (misplaced j z d m)) = read_none b s i
+stops-refusal_at b i (suc k) s at l (breaks (misplaced j z d m)) = read-item b k s i j z d ∙ rw m refl
+stops-refusal_at b i zero s at l (behind j d m f n) = let x = found-extent b at j i d in absurd (omega (arith, x.after, x.within))
+stops-refusal_at b i (suc k) s at l (behind j d m f n) = read-item b k s at j i d ∙ rw (m, f, ne_eqb i (length b) n) refl
+stops-refusal_at b i zero s at l (later j z d m f h) = let x = found-extent b at j z d in absurd (omega (arith, x.after, x.within))
+stops-refusal_at b i (suc k) s at l (later j z d m f h) =
     let x = found-extent b at j z d in
-    read-item b k s at j z d ∙ (rw (m, f) (stops-refusal b k (next s j) z i (omega (arith, x.after)) h))
+    read-item b k s at j z d ∙ (rw (m, f) (stops-refusal_at b i k (next s j) z (omega (arith, x.after)) h))
+
+pub stops-refusal : (b : List ℕ) (k : ℕ) (s : State) (at i : ℕ) → length b ≤ at + k → Stops b i s at → read_from b k s at ≡ broken i
+stops-refusal b k s at i = stops-refusal_at b i k s at
 
 -- it goes forward
+stops-forward_at : (b : List ℕ) (i : ℕ) (s : State) (at : ℕ) → Stops b i s at → at ≤ i
+stops-forward_at b i s at (breaks w) = omega arith
+stops-forward_at b i s at (behind j d m f n) = omega (arith, (found-extent b at j i d).after)
+stops-forward_at b i s at (later j z d m f h) = omega (arith, (found-extent b at j z d).after, stops-forward_at b i (next s j) z h)
+
 stops-forward : (b : List ℕ) (s : State) (at i : ℕ) → Stops b i s at → at ≤ i
-stops-forward b s at i (breaks w) = omega arith
-stops-forward b s at i (behind j d m f n) = omega (arith, (found-extent b at j i d).after)
-stops-forward b s at i (later j z d m f h) = omega (arith, (found-extent b at j z d).after, stops-forward b (next s j) z i h)
+stops-forward b s at i = stops-forward_at b i s at
 
 -- WHAT STANDS BEFORE BEGINS A STORED OBJECT
 
@@ -90,17 +96,20 @@ stops-forward b s at i (later j z d m f h) = omega (arith, (found-extent b at j 
 pub taken-bytes : (b : List ℕ) (s : State) (at : ℕ) (j : Item) (z : ℕ) → Bytes b → Finds b at j z → take at b ≡ spell (so_far s) → take z b ≡ spell (so_far s ++ (j ∷ []))
 taken-bytes b s at j z v d e = found-taken b at j z v d ∙ rw (e, spell-append (so_far s) (j ∷ []), append-nil (content j)) refl
 
-stops-begins : (b : List ℕ) (s : State) (at i : ℕ) → Bytes b → Along s → Kept s → take at b ≡ spell (so_far s) → Stops b i s at → BeginsStored (take i b)
+stops-begins_at : (b : List ℕ) (i : ℕ) (s : State) (at : ℕ) → Bytes b → Along s → Kept s → take at b ≡ spell (so_far s) → Stops b i s at → BeginsStored (take i b)
 unfolding accept
-stops-begins b s at i v a k e (breaks w) = begins (take i b) s (bytes_take i b v) a k e
-stops-begins b s at i v a k e (behind j d m f n) =
+stops-begins_at b i s at v a k e (breaks w) = begins (take i b) s (bytes_take i b v) a k e
+stops-begins_at b i s at v a k e (behind j d m f n) =
     let x = taken-bytes b s at j i v d e in
     let y : take i b ≡ take at b ++ spell (j ∷ []) = x ∙ (spell-append (so_far s) (j ∷ []) ∙ ap (λ (l : List ℕ). l ++ spell (j ∷ [])) (sym e)) in
     let c = complete (take at b) s (j ∷ []) (held s) (bytes_take at b v) a k e (rw (m, f) refl) (bytes-right (take at b) (spell (j ∷ [])) (rw y at (bytes_take i b v))) in
     (held s, [], c.good, c.same ∙ (sym y ∙ sym (append-nil (take i b))))
-stops-begins b s at i v a k e (later j z d m f h) =
+stops-begins_at b i s at v a k e (later j z d m f h) =
     let t = step s j a f m in
-    stops-begins b (next s j) z i v t.along (kept s j a k m) (taken-bytes b s at j z v d e ∙ ap spell (sym t.same)) h
+    stops-begins_at b i (next s j) z v t.along (kept s j a k m) (taken-bytes b s at j z v d e ∙ ap spell (sym t.same)) h
+
+stops-begins : (b : List ℕ) (s : State) (at i : ℕ) → Bytes b → Along s → Kept s → take at b ≡ spell (so_far s) → Stops b i s at → BeginsStored (take i b)
+stops-begins b s at i = stops-begins_at b i s at
 
 -- WITH THE FIELD THAT STANDS THERE NOTHING DOES
 
@@ -131,14 +140,17 @@ breaks-again b rest s i t c z v d (misplaced j y w m) =
     let q : z ≡ y = cc in
     misplaced j y (found-again b rest i j y z v (omega arith) w) m
 
-stops-again : (b rest : List ℕ) (s : State) (at i t : ℕ) (c : List ℕ) (z : ℕ) → Bytes b → field_at b i ≡ field t c z → Stops b i s at → Stops (take z b ++ rest) i s at
-stops-again b rest s at i t c z v d (breaks w) = breaks (breaks-again b rest s i t c z v d w)
-stops-again b rest s at i t c z v d (behind j w m f n) =
+stops-again_at : (b : List ℕ) (rest : List ℕ) (i : ℕ) (s : State) (at : ℕ) (t : ℕ) (c : List ℕ) (z : ℕ) → Bytes b → field_at b i ≡ field t c z → Stops b i s at → Stops (take z b ++ rest) i s at
+stops-again_at b rest i s at t c z v d (breaks w) = breaks (breaks-again b rest s i t c z v d w)
+stops-again_at b rest i s at t c z v d (behind j w m f n) =
     let x = field-extent b i t c z d in
     behind j (found-again b rest at j i z v (omega (arith, x.after)) w) m f (λ e. omega (arith, x.after, x.within, length-append (take z b) rest, length-take z b))
-stops-again b rest s at i t c z v d (later j y w m f h) =
+stops-again_at b rest i s at t c z v d (later j y w m f h) =
     let x = field-extent b i t c z d in
-    later j y (found-again b rest at j y z v (omega (arith, x.after, stops-forward b (next s j) y i h)) w) m f (stops-again b rest (next s j) y i t c z v d h)
+    later j y (found-again b rest at j y z v (omega (arith, x.after, stops-forward b (next s j) y i h)) w) m f (stops-again_at b rest i (next s j) y t c z v d h)
+
+stops-again : (b rest : List ℕ) (s : State) (at i t : ℕ) (c : List ℕ) (z : ℕ) → Bytes b → field_at b i ≡ field t c z → Stops b i s at → Stops (take z b ++ rest) i s at
+stops-again b rest s at i t c z = stops-again_at b rest i s at t c z
 
 -- Bytes are refused at a field for what stands up to its end, whatever comes after it.
 pub refused-early : (b rest : List ℕ) (i t : ℕ) (c : List ℕ) (z : ℕ) → Bytes b → check b ≡ refuse 50 (offset_at i) → field_at b i ≡ field t c z → check (take z b ++ rest) ≡ refuse 50 (offset_at i)

@@ -47,10 +47,12 @@ ends_of [] h = tt
 ends_of (b ∷ bs) h = (h b (Memᴰ.head refl), ends_of bs (λ d m. h d (Memᴰ.tail m)))
 
 ends-mem : (bs : Table ℕ (List Cell)) (d : ℕ × List Cell) → Ends bs → Memᴰ d bs → d.0 + length d.1 ≤ word_room
+ends-mem [] d h xp = elim xp [ ]
 ends-mem (b ∷ bs) d h (Memᴰ.head q) = rw q h.0
 ends-mem (b ∷ bs) d h (Memᴰ.tail m) = ends-mem bs d h.1 m
 
 full-mem : (b : Table ℕ (List Cell)) (d : ℕ × List Cell) → Full b → Memᴰ d b → 0 < length d.1
+full-mem [] d f xp = elim xp [ ]
 full-mem (e ∷ b) d f (Memᴰ.head q) = rw q f.0
 full-mem (e ∷ b) d f (Memᴰ.tail m) = full-mem b d f.1 m
 

@@ -10,7 +10,7 @@ pub lay_tables-requires : goal.lay_tables-requires
 lay_tables-requires c = rooms _ _ _ _ c.requires.0 _ _ _ _ _ _ c.requires.2
 
 pub returns-in-Went : goal.returns-in-Went
-returns-in-Went c = made-whole _ _ _ _ c.requires.0 _ _ _ _ _ _ c.requires.2 _ _ _ (search rules) (search rules) (search rules) _ c.write_blocks-answer.ensures _ c.in-Went.is _ _ _ c.lay_tables.ensures.0 c.lay_tables.ensures.1
+returns-in-Went c = made-whole _ _ _ _ c.requires.0 _ _ _ _ _ _ c.requires.2 _ _ _ (search rules) (search rules) (search rules) _ c.write_blocks-answer.ensures _ c.in-Went.is _ _ _ c.lay_tables.ensures.laid_labels c.lay_tables.ensures.relocations_after
 
 pub returns-in-Refused : goal.returns-in-Refused
 returns-in-Refused c = made_none _ _ _ _ c.requires.0 _ _ _ _ _ _ c.requires.2 _ _ _ (search rules) (search rules) (search rules) _ c.write_blocks-answer.ensures _ c.in-Refused.is _ c.clear.ensures

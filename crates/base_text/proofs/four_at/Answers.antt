@@ -4,8 +4,6 @@ use native.Mathlib.Omega.{arith}
 use Rattle.base_text.proofs.KeyLaws.{four_is}
 use Rattle.base_text.proofs.four_at.Goals as goal
 
-)
-
 pub overflow_mul-result-2 : goal.overflow_mul-result-2
 overflow_mul-result-2 c = omega (arith, c.shared_slice_known-1.given (c.args.at + 2))
 
@@ -20,3 +18,4 @@ returns c =
     (
   four_is _ _ c.two_at.ensures.0 c.long8.ensures c.long8-2.ensures,
   omega (arith, c.shared_slice_known-1.given (c.args.at + 2), c.shared_slice_known-1.given (c.args.at + 3)),
+)

@@ -4,8 +4,6 @@ use native.Mathlib.Omega.{arith}
 use Rattle.base_text.proofs.KeyLaws.{two_is}
 use Rattle.base_text.proofs.two_at.Goals as goal
 
-)
-
 pub overflow_mul-result : goal.overflow_mul-result
 overflow_mul-result c = omega (arith, c.shared_slice_known-1.given c.args.at)
 
@@ -17,3 +15,4 @@ returns c =
     (
   two_is _ _ c.long8.ensures c.long8-2.ensures,
   omega (arith, c.shared_slice_known-1.given c.args.at, c.shared_slice_known-1.given (c.args.at + 1)),
+)

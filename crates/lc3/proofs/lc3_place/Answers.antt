@@ -3,4 +3,4 @@ use Rattle.lc3.proofs.Told.{place-put}
 use Rattle.lc3.proofs.lc3_place.Goals as goal
 
 pub returns : goal.returns
-returns c = place-put c.put_answer.ensures _ _ c.part_of-before.ensures c.line_feeds-lines.ensures c.bytes_since-bytes.ensures.0 c.told_place.ensures
+returns c = place-put c.put_answer.ensures _ _ c.part_of-before.ensures c.line_feeds-lines.ensures c.bytes_since-bytes.ensures.value c.told_place.ensures

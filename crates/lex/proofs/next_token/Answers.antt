@@ -13,4 +13,4 @@ pub next_of-requires : goal.next_of-requires
 next_of-requires c = subst Narrow (sym c.lexeme_at.ensures) (next-narrow c.args.src.now c.args.at)
 
 pub returns : goal.returns
-returns c = let r = c.next_of.ensures ∙ ap next_of c.lexeme_at.ensures ∙ there_and_back (coded (next_token c.args.src.now c.args.at)) in (ap (meant c.args.src.now) r ∙ meant-coded c.args.src.now c.args.at, r)
+returns c = let r = c.next_of.ensures ∙ ap next_of c.lexeme_at.ensures ∙ there_and_back (coded (next_token c.args.src.now c.args.at)) in record { means = ap (meant c.args.src.now) r ∙ meant-coded c.args.src.now c.args.at; tells = r }

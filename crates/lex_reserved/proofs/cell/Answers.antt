@@ -1,6 +1,6 @@
 -- `lex_reserved::cell` meets its contract. Assumes nothing.
 use mathlib.Core.Path.{ap}
-use mathlib.Core.List.{List}
+use mathlib.Core.List.{List, []}
 use Prim.Native.Nat.{ℕ}
 use lib.ListN.{get_or}
 use Rattle.lex_reserved.specs.Table.{row}

@@ -17,4 +17,4 @@ pub loop-k-preserved : goal.loop-k-preserved
 loop-k-preserved c = search (rules, counting-goes)
 
 pub returns : goal.returns
-returns c = (search (rules, counting-all), search rules)
+returns c = record { value = search (rules, counting-all); upper_bound = search rules }

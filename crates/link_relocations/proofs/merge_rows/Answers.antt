@@ -13,7 +13,7 @@ put_open-k-requires c = search (rules, first-placed)
 pub loop-i-preserved-then-first_is_next : goal.loop-i-preserved-then-first_is_next
 loop-i-preserved-then-first_is_next c = 
     merging-first c.loop-i.invariant c.first_is_next.ensures
-    c.if-first_is_next.true c.put_open-k.ensures.0 c.put_open-k.ensures.1
+    c.if-first_is_next.true c.put_open-k.ensures.value c.put_open-k.ensures.out_after
 
 pub put_open-k-requires-else-first_is_next : goal.put_open-k-requires-else-first_is_next
 put_open-k-requires-else-first_is_next c = search (rules, second-placed)
@@ -21,8 +21,8 @@ put_open-k-requires-else-first_is_next c = search (rules, second-placed)
 pub loop-i-preserved : goal.loop-i-preserved
 loop-i-preserved c = 
     merging-second c.loop-i.invariant c.first_is_next.ensures
-    c.loop-i-test.true c.if-first_is_next.false c.put_open-k-else-first_is_next.ensures.0
-    c.put_open-k-else-first_is_next.ensures.1
+    c.loop-i-test.true c.if-first_is_next.false c.put_open-k-else-first_is_next.ensures.value
+    c.put_open-k-else-first_is_next.ensures.out_after
 
 pub returns : goal.returns
 returns c = search (rules, merging-all)

@@ -7,7 +7,7 @@ pub row_u32-requires : goal.row_u32-requires
 row_u32-requires c = search (rules, room_open)
 
 pub returns-then-is_open : goal.returns-then-is_open
-returns-then-is_open c = (search (rules, after-stays), search (rules, left-stays))
+returns-then-is_open c = record { value = search (rules, after-stays); out_after = search (rules, left-stays) }
 
 pub returns : goal.returns
-returns c = (search (rules, after-goes), search (rules, left-goes))
+returns c = record { value = search (rules, after-goes); out_after = search (rules, left-goes) }

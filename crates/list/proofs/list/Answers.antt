@@ -5,7 +5,7 @@ use Rattle.object_check.proofs.Writes.{zeros-still, writes-object, writes_short,
 use Rattle.list.proofs.list.Goals as goal
 
 pub list_object-requires : goal.list_object-requires
-list_object-requires c = (checked-valid _ c.check_object.ensures c.in-Object.is, zeros-still _ (length c.args.out.now) c.zero_u8.ensures)
+list_object-requires c = record { valid = checked-valid _ c.check_object.ensures c.in-Object.is; out_value = zeros-still _ (length c.args.out.now) c.zero_u8.ensures }
 
 pub returns-in-Object : goal.returns-in-Object
 returns-in-Object c = writes-object _ _ _ _ c.check_object.ensures _ _ _ _ c.in-Object.is c.zero_u8.ensures c.list_object.ensures

@@ -1,5 +1,6 @@
 -- `list::listing_size` meets its contract. Assumes nothing.
 use borrow.Author.Rules.{rules}
+use mathlib.Core.List.{[]}
 use Rattle.list.proofs.Length.{few_words, listing-size, relocs-named}
 use Rattle.list.proofs.listing_size.Goals as goal
 

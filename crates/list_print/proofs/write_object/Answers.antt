@@ -3,7 +3,7 @@ use Rattle.list_print.proofs.Telling.{object-bytes, object-refused}
 use Rattle.list_print.proofs.write_object.Goals as goal
 
 pub returns-in-Bytes : goal.returns-in-Bytes
-returns-in-Bytes c = object-bytes _ _ _ c.requires.0 c.requires.1.0 c.requires.1.1 _ _ c.list.ensures _ c.in-Bytes.is
+returns-in-Bytes c = object-bytes _ _ _ c.requires.valid c.requires.names_value c.requires.names_in_bounds _ _ c.list.ensures _ c.in-Bytes.is
 
 pub returns-in-Refused : goal.returns-in-Refused
-returns-in-Refused c = object-refused _ _ _ c.requires.0 c.requires.1.0 c.requires.1.1 _ _ c.list.ensures _ _ c.in-Refused.is
+returns-in-Refused c = object-refused _ _ _ c.requires.valid c.requires.names_value c.requires.names_in_bounds _ _ c.list.ensures _ _ c.in-Refused.is

@@ -8,10 +8,10 @@ pub returns-then-k-eq0 : goal.returns-then-k-eq0
 returns-then-k-eq0 c = search (rules, follows-none)
 
 pub name_of-before-requires : goal.name_of-before-requires
-name_of-before-requires c = (omega (arith, c.requires.0), row-place _ c.requires.1 (omega arith))
+name_of-before-requires c = record { k_in_bounds = omega (arith, c.requires.0); k_in_bounds_2 = row-place _ c.requires.1 (omega arith) }
 
 pub name_of-name-requires : goal.name_of-name-requires
-name_of-name-requires c = (c.requires.0, row-place _ c.requires.1 (omega arith))
+name_of-name-requires c = record { k_in_bounds = c.requires.0; k_in_bounds_2 = row-place _ c.requires.1 (omega arith) }
 
 pub returns : goal.returns
 returns c = search (rules, follows-row)

@@ -12,7 +12,7 @@ loop-st-init c = going_start _ _ _ _ _ _ _ c.requires _ c.begin-t.ensures
 pub put_known-t-requires : goal.put_known-t-requires
 put_known-t-requires c = 
     let k = is_known _ _ c.is_known.ensures c.if-is_known.true in
-    (going-room _ _ _ _ _ _ _ _ _ _ _ _ _ c.loop-st.invariant _ c.next_statement.ensures _ c.in-Read.is k, going-low _ _ _ _ _ _ _ _ _ _ _ _ _ c.loop-st.invariant _ c.next_statement.ensures _ c.in-Read.is k)
+    record { room = going-room _ _ _ _ _ _ _ _ _ _ _ _ _ c.loop-st.invariant _ c.next_statement.ensures _ c.in-Read.is k; bits_bound = going-low _ _ _ _ _ _ _ _ _ _ _ _ _ c.loop-st.invariant _ c.next_statement.ensures _ c.in-Read.is k }
 
 pub loop-st-smaller-then-is_known : goal.loop-st-smaller-then-is_known
 loop-st-smaller-then-is_known c = rest-less _ _ _ c.next_statement.ensures _ c.in-Read.is

@@ -5,7 +5,7 @@ use Rattle.object_check.proofs.Writes.{zeros-still, writes-object, writes_short,
 use Rattle.stored.proofs.store.Goals as goal
 
 pub store_object-requires : goal.store_object-requires
-store_object-requires c = (checked-valid _ c.check_object.ensures c.in-Object.is, zeros-still _ (length c.args.bytes.now) c.zero_u8.ensures)
+store_object-requires c = record { valid = checked-valid _ c.check_object.ensures c.in-Object.is; bytes_value = zeros-still _ (length c.args.bytes.now) c.zero_u8.ensures }
 
 pub returns-in-Object : goal.returns-in-Object
 returns-in-Object c = writes-object _ _ _ _ c.check_object.ensures _ _ _ _ c.in-Object.is c.zero_u8.ensures c.store_object.ensures

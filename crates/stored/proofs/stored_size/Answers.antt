@@ -6,7 +6,7 @@ use Rattle.stored.proofs.Storing.{stored-size}
 use Rattle.stored.proofs.stored_size.Goals as goal
 
 pub blocks_size-first-requires : goal.blocks_size-first-requires
-blocks_size-first-requires c = (c.requires.blocks, marks-ok _ _ _ c.requires.words)
+blocks_size-first-requires c = record { blocks_ok = c.requires.blocks; marks_ok = marks-ok _ _ _ c.requires.words }
 
 pub relocations_size-third-requires : goal.relocations_size-third-requires
 relocations_size-third-requires c = relocs-named _ _ c.requires

@@ -15,7 +15,7 @@ pub put_fitting-requires : goal.put_fitting-requires
 put_fitting-requires c = filling-fits c.loop-next.invariant _ _ c.step.ensures c.in-On.is
 
 pub put_run-w-requires : goal.put_run-w-requires
-put_run-w-requires c = (filling-next c.loop-next.invariant _ _ c.step.ensures c.in-On.is, filling-roomy c.loop-next.invariant (search rules) (search rules))
+put_run-w-requires c = record { going = filling-next c.loop-next.invariant _ _ c.step.ensures c.in-On.is; roomy = filling-roomy c.loop-next.invariant (search rules) (search rules) }
 
 pub loop-next-smaller : goal.loop-next-smaller
 loop-next-smaller c = filling-less c.loop-next.invariant _ _ c.step.ensures c.in-On.is _ c.put_run-w.ensures.further

@@ -5,7 +5,7 @@ use Rattle.stored_put_labels.proofs.Rows.{head_in, head-low, address-in, defined
 use Rattle.stored_put_labels.proofs.put_named.Goals as goal
 
 pub overflow_add-start : goal.overflow_add-start
-overflow_add-start c = omega (arith, head_in c.requires.0)
+overflow_add-start c = omega (arith, head_in c.requires.named_at)
 
 pub bounds-bytes-at : goal.bounds-bytes-at
 bounds-bytes-at c = search (rules, head-low)

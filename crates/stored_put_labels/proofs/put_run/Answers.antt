@@ -5,7 +5,7 @@ use Rattle.stored_put_labels.proofs.Rows.{put-none}
 use Rattle.stored_put_labels.proofs.put_run.Goals as goal
 
 pub put_from-requires : goal.put_from-requires
-put_from-requires c = (search rules, (all-zero c.if-w.true, search rules))
+put_from-requires c = record { going = search rules; labels_value = all-zero c.if-w.true; roomy = search rules }
 
 pub returns-then-w-room : goal.returns-then-w-room
 returns-then-w-room c = put-none

@@ -5,7 +5,7 @@ use Rattle.stored_walk.proofs.Dispatch.{step-over, step-short}
 use Rattle.stored_walk.proofs.step.Goals as goal
 
 pub step_field-requires : goal.step_field-requires
-step_field-requires c = (c.requires, says-found _ _ _ c.field_at.ensures _ _ _ c.in-Found.is)
+step_field-requires c = record { going = c.requires; stands = says-found _ _ _ c.field_at.ensures _ _ _ c.in-Found.is }
 
 pub returns-in-Over : goal.returns-in-Over
 returns-in-Over c = (refl, step-over _ _ _ _ c.field_at.ensures c.in-Over.is)

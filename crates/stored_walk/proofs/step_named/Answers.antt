@@ -3,16 +3,16 @@ use Rattle.stored_walk.proofs.Relocations.{relocs-less, reloc-listed, word-refus
 use Rattle.stored_walk.proofs.step_named.Goals as goal
 
 pub seek_near-requires : goal.seek_near-requires
-seek_near-requires c = reloc-listed _ _ _ c.requires.0
+seek_near-requires c = reloc-listed _ _ _ c.requires.going
 
 pub relocated-requires : goal.relocated-requires
-relocated-requires c = relocs-less _ _ c.requires.1.1
+relocated-requires c = relocs-less _ _ c.requires.wanted_value
 
 pub returns-in-External : goal.returns-in-External
-returns-in-External c = reloc-taken _ _ _ _ _ _ c.requires.1.0 c.requires.1.1 _ c.seek_word-word.ensures c.if-word.true _ c.part_of-name.ensures _ c.seek_near.ensures _ c.in-External.is _ c.relocated.ensures
+returns-in-External c = reloc-taken _ _ _ _ _ _ c.requires.reloc_at c.requires.wanted_value _ c.seek_word-word.ensures c.if-word.true _ c.part_of-name.ensures _ c.seek_near.ensures _ c.in-External.is _ c.relocated.ensures
 
 pub returns-in-Other : goal.returns-in-Other
-returns-in-Other c = name-refused _ _ _ _ _ _ c.requires.1.0 c.requires.1.1 _ c.seek_word-word.ensures c.if-word.true _ c.part_of-name.ensures _ c.seek_near.ensures c.in-Other.is
+returns-in-Other c = name-refused _ _ _ _ _ _ c.requires.reloc_at c.requires.wanted_value _ c.seek_word-word.ensures c.if-word.true _ c.part_of-name.ensures _ c.seek_near.ensures c.in-Other.is
 
 pub returns : goal.returns
-returns c = word-refused _ _ _ _ _ _ c.requires.1.0 c.requires.1.1 _ c.seek_word-word.ensures c.if-word.false
+returns c = word-refused _ _ _ _ _ _ c.requires.reloc_at c.requires.wanted_value _ c.seek_word-word.ensures c.if-word.false

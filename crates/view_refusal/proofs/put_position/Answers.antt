@@ -7,4 +7,4 @@ pub overflow_add-feeds : goal.overflow_add-feeds
 overflow_add-feeds c = omega (arith, feeds-fit _ c.line_feeds-feeds.ensures)
 
 pub returns : goal.returns
-returns c = position-put _ _ _ c.line_feeds-feeds.ensures c.bytes_since-since.ensures.0 c.long.ensures c.long-2.ensures c.put-a.ensures c.put_byte-b.ensures c.put_decimal-c.ensures c.put_byte-d.ensures c.put_decimal-e.ensures c.put.ensures
+returns c = position-put _ _ _ c.line_feeds-feeds.ensures c.bytes_since-since.ensures.value c.long.ensures c.long-2.ensures c.put-a.ensures c.put_byte-b.ensures c.put_decimal-c.ensures c.put_byte-d.ensures c.put_decimal-e.ensures c.put.ensures

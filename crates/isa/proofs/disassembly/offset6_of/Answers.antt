@@ -1,5 +1,7 @@
 -- `offset6_of` meets its contract. Assumes nothing.
+use Rattle.rules.specs.Words.{extend}
 use Rattle.isa.proofs.disassembly.offset6_of.Goals as goal
 
 pub returns : goal.returns
+unfolding extend
 returns c = c.sign_extend.ensures

@@ -1,0 +1,7 @@
+-- `view_instruction::put_two_number` meets its contract. Assumes nothing.
+use Rattle.view_instruction.proofs.Puts.{three-put}
+use borrow.Author.Rules.{rules}
+use Rattle.view_instruction.proofs.put_two_number.Goals as goal
+
+pub returns : goal.returns
+returns c = search (rules, three-put)

@@ -1,0 +1,16 @@
+-- `view_object::apart_row` meets its contract. Assumes nothing.
+use Rattle.std.proofs.Common.{◌-◌, rules}
+use Rattle.view_word.proofs.Seeking.{seek-start, seek-on, seek_found, seek-none}
+use Rattle.view_object.proofs.apart_row.Goals as goal
+
+pub loop-row-init : goal.loop-row-init
+loop-row-init c = search (rules, seek-start)
+
+pub returns-then-is_apart : goal.returns-then-is_apart
+returns-then-is_apart c = search (rules, seek_found)
+
+pub loop-row-preserved : goal.loop-row-preserved
+loop-row-preserved c = search (rules, seek-on)
+
+pub returns : goal.returns
+returns c = search (rules, seek-none)

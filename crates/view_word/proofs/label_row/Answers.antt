@@ -1,0 +1,16 @@
+-- `view_word::label_row` meets its contract. Assumes nothing.
+use Rattle.std.proofs.Common.{◌-◌, rules}
+use Rattle.view_word.proofs.Seeking.{seek-start, seek-on, seek_found, seek-none}
+use Rattle.view_word.proofs.label_row.Goals as goal
+
+pub loop-row-init : goal.loop-row-init
+loop-row-init c = search (rules, seek-start)
+
+pub returns-then-stands_at : goal.returns-then-stands_at
+returns-then-stands_at c = search (rules, seek_found)
+
+pub loop-row-preserved : goal.loop-row-preserved
+loop-row-preserved c = search (rules, seek-on)
+
+pub returns : goal.returns
+returns c = search (rules, seek-none)
