@@ -188,7 +188,7 @@ module _ (a b : Object) where
 
   module _ (g : Good a) (h : Good b) (s : shared a b ≡ false) where
     pub blocks-merged : Merged a.blocks b.blocks
-    blocks-merged = merged 0 a.blocks b.blocks (good-chain a.blocks g.filled g.cells-up) (good-chain b.blocks h.filled h.cells_up) (shared-apart a b s)
+    blocks-merged = merged 0 a.blocks b.blocks (good-chain a.blocks g.filled g.cells_up) (good-chain b.blocks h.filled h.cells_up) (shared-apart a b s)
 
     -- where no address is shared, blocks and words add up
     pub all_blocks_lem : length (all_blocks a b) ≡ length a.blocks + length b.blocks

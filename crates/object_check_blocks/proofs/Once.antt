@@ -19,6 +19,7 @@ spot-once (there n s e) (there m t f) = let r = spot-once s t in omega (arith, r
 
 -- and lies in a block
 spot-inside : (n : ℕ) (h : ℕ → ℕ × ℕ) (x p : ℕ) → Spot x (tab n h) p → (k : ℕ) × (k < n) × Inside h x k
+spot-inside Prim.Native.Nat.zero h x p x3 = elim x3 [ ]
 spot-inside (suc n) h x p (here a b) = (0, suc-le-suc zero-le, (omega arith, omega arith))
 spot-inside (suc n) h x p (there m s e) = let w = spot-inside n (λ k. h (suc k)) x _ s in (suc w.0, suc-le-suc w.1, w.2)
 

@@ -35,6 +35,7 @@ cell_at n w bs ws ms x p v l s =
 
 -- where no block has the address, nothing stands
 row-of-block : (n : ℕ) (h : ℕ → ℕ × ℕ) (cs : List Cell) (x : ℕ) (d : ℕ × List Cell) → Memᴰ d (carve (tab n h) cs) → Within x d → (k : ℕ) × (k < n) × Inside h x k
+row-of-block zero h cs x d x4 i = elim x4 [ ]
 row-of-block (suc n) h cs x d (Memᴰ.head q) i =
     let j : Within x ((h 0).0, take (h 0).1 cs) = rw q at i in
     (0, suc-le-suc zero-le, (j.0, omega (arith, j.1, length-take (h 0).1 cs)))
