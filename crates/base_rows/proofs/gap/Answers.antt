@@ -13,6 +13,6 @@ pub loop-i-preserved : goal.loop-i-preserved
 loop-i-preserved c = (omega arith, gap_more c.loop-i.invariant.1 c.requires.1 (omega arith))
 
 pub returns : goal.returns
-returns c = 
+returns c =
     let e : c.loop-i.i ≡ c.args.k = omega arith in
     c.loop-i.invariant.1.here ∙ ap (gapped _ _ _) e

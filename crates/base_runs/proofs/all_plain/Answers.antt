@@ -8,7 +8,7 @@ pub loop-i-init : goal.loop-i-init
 loop-i-init c = looked-start Plain _
 
 pub loop-i-preserved : goal.loop-i-preserved
-loop-i-preserved c = plain-next _ c.loop-i.no-quote c.loop-i.no-backslash c.loop-i.no-feed c.loop-i.no_return c.loop-i.invariant c.loop-i-test.true
+loop-i-preserved c = plain-next _ c.loop-i.no_quote c.loop-i.no_backslash c.loop-i.no_feed c.loop-i.no_return c.loop-i.invariant c.loop-i-test.true
 
 pub returns : goal.returns
 returns c = looked-end _ _ c.loop-i.invariant c.loop-i-test.false

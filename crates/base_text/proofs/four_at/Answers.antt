@@ -14,8 +14,7 @@ pub overflow_add-result-2 : goal.overflow_add-result-2
 overflow_add-result-2 c = omega (arith, c.shared_slice_known-1.given (c.args.at + 2), c.shared_slice_known-1.given (c.args.at + 3))
 
 pub returns : goal.returns
-returns c = 
-    (
+returns c = (
   four_is _ _ c.two_at.ensures.0 c.long8.ensures c.long8-2.ensures,
   omega (arith, c.shared_slice_known-1.given (c.args.at + 2), c.shared_slice_known-1.given (c.args.at + 3)),
 )

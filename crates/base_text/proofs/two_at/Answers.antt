@@ -11,8 +11,7 @@ pub overflow_add-result : goal.overflow_add-result
 overflow_add-result c = omega (arith, c.shared_slice_known-1.given c.args.at, c.shared_slice_known-1.given (c.args.at + 1))
 
 pub returns : goal.returns
-returns c = 
-    (
+returns c = (
   two_is _ _ c.long8.ensures c.long8-2.ensures,
   omega (arith, c.shared_slice_known-1.given c.args.at, c.shared_slice_known-1.given (c.args.at + 1)),
 )

@@ -5,6 +5,6 @@ use Rattle.isa_fields.proofs.Numbers.{reached}
 use Rattle.isa_fields.proofs.replace_pc_offset11.Goals as goal
 
 pub returns : goal.returns
-returns c = 
+returns c =
     ap meant_offset c.replace_pc_offset.ensures
     ∙ reached 11 (record { least = omega arith; most = omega arith }) c.args.label c.args.pc

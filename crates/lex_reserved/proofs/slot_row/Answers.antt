@@ -136,4 +136,4 @@ returns-in-49 c = sym (ap slot_row c.in-49.is)
 
 pub returns-in_default : goal.returns-in_default
 unfolding key_of row_from slot_row instructions if◌then◌else◌
-returns-in_default c = no_word _ c.in_default.rest
+returns-in_default c = no_word _ c.in_default.in_default-own.rest

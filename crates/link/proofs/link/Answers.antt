@@ -39,7 +39,7 @@ pub shape_of-marks-in-Linked : goal.shape_of-marks-in-Linked
 shape_of-marks-in-Linked c = c.merge_blocks.auto.1.1.1.1.1.1.1.1.1.1.0
 
 pub returns-in-Linked : goal.returns-in-Linked
-returns-in-Linked c = 
+returns-in-Linked c =
     linked-made (link-ready _ _ _ _ _ _ _ _ _ _ _ c.is_short-small.ensures c.lent_words-room.ensures c.decide-decision.ensures c.in-Linked.is) _ _ c.acceptance.ensures
     (all_laid (link-ready _ _ _ _ _ _ _ _ _ _ _ c.is_short-small.ensures c.lent_words-room.ensures c.decide-decision.ensures c.in-Linked.is) c.merge_blocks.ensures.blocks c.merge_blocks.ensures.words c.settle_words.ensures c.settle_words-in-Linked.ensures
     c.merge_blocks.ensures.marks c.lay_labels.ensures c.merge_relocations.ensures)

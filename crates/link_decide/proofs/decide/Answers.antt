@@ -4,7 +4,7 @@ use Rattle.link_decide.proofs.Deciding.{first-valid, second-valid, decided-short
 use Rattle.link_decide.proofs.decide.Goals as goal
 
 pub judge-requires : goal.judge-requires
-judge-requires c = 
+judge-requires c =
     judge-ready _ _ _ _ _ _
     (first-valid _ _ _ _ _ _ _ _ c.check_object-checked1.ensures c.check_object-checked2.ensures c.both_checked.ensures c.in-Object.is)
     (second-valid _ _ _ _ _ _ _ _ c.check_object-checked1.ensures c.check_object-checked2.ensures c.both_checked.ensures c.in-Object.is)

@@ -17,6 +17,6 @@ pub returns-in-Differs : goal.returns-in-Differs
 returns-in-Differs c = judged-differs _ _ _ _ _ _ _ _ _ _ _ _ _ _ _ c.blocks_meet.ensures c.if-blocks_meet.false _ c.match_labels-matched.ensures _ c.in-Differs.is refl
 
 pub returns-in-Rows : goal.returns-in-Rows
-returns-in-Rows c = 
+returns-in-Rows c =
     judged-weighs _ _ _ _ _ _ _ _ _ _ _ _ _ _ _ c.blocks_meet.ensures c.if-blocks_meet.false _ c.match_labels-matched.ensures _ c.in-Rows.is
     _ c.weigh.ensures c.tally-c.ensures

@@ -11,7 +11,7 @@ pub put_open-k-requires : goal.put_open-k-requires
 put_open-k-requires c = search (rules, first-placed)
 
 pub loop-i-preserved-then-first_is_next : goal.loop-i-preserved-then-first_is_next
-loop-i-preserved-then-first_is_next c = 
+loop-i-preserved-then-first_is_next c =
     merging-first c.loop-i.invariant c.first_is_next.ensures
     c.if-first_is_next.true c.put_open-k.ensures.value c.put_open-k.ensures.out_after
 
@@ -19,7 +19,7 @@ pub put_open-k-requires-else-first_is_next : goal.put_open-k-requires-else-first
 put_open-k-requires-else-first_is_next c = search (rules, second-placed)
 
 pub loop-i-preserved : goal.loop-i-preserved
-loop-i-preserved c = 
+loop-i-preserved c =
     merging-second c.loop-i.invariant c.first_is_next.ensures
     c.loop-i-test.true c.if-first_is_next.false c.put_open-k-else-first_is_next.ensures.value
     c.put_open-k-else-first_is_next.ensures.out_after

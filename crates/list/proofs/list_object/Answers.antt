@@ -7,22 +7,19 @@ pub returns-then-out-size : goal.returns-then-out-size
 returns-then-out-size c = no_room _ _ c.listing_size-size.ensures _ c.requires.out_value c.if-out-size.true
 
 pub put_blocks-first-requires : goal.put_blocks-first-requires
-put_blocks-first-requires c = 
-    let v = c.requires.valid in
+put_blocks-first-requires c =
     let room = first_fits _ _ c.listing_size-size.ensures c.args.out.now c.if-out-size.false in
-    record { blocks_ok = v.blocks; words_ok = v.words; marks_in_bounds = room }
+    record { blocks_ok = c.requires.valid.blocks; words_ok = c.requires.valid.words; marks_in_bounds = room }
 
 pub put_labels-second-requires : goal.put_labels-second-requires
-put_labels-second-requires c = 
-    let v = c.requires.valid in
+put_labels-second-requires c =
     let room = second_fits _ _ c.listing_size-size.ensures _ _ _ c.if-out-size.false c.put_blocks-first.ensures in
-    record { labels_ok = v.labels; names_in_bounds = room }
+    record { labels_ok = c.requires.valid.labels; names_in_bounds = room }
 
 pub put_relocations-end-requires : goal.put_relocations-end-requires
-put_relocations-end-requires c = 
-    let v = c.requires.valid in
+put_relocations-end-requires c =
     let room = third-fits _ _ c.listing_size-size.ensures _ _ _ _ _ c.if-out-size.false c.put_blocks-first.ensures c.put_labels-second.ensures in
-    record { relocs_low = relocs-low _ _ v; names_in_bounds = room }
+    record { relocs_low = relocs-low _ _ c.requires.valid; names_in_bounds = room }
 
 pub returns : goal.returns
 returns c = all-written _ _ c.listing_size-size.ensures _ _ _ _ _ _ _ c.requires.out_value c.if-out-size.false c.put_blocks-first.ensures c.put_labels-second.ensures c.put_relocations-end.ensures

@@ -8,30 +8,23 @@ pub relocations_size-b-requires : goal.relocations_size-b-requires
 relocations_size-b-requires c = relocs-named _ _ c.requires
 
 pub overflow_mul-result-2 : goal.overflow_mul-result-2
-overflow_mul-result-2 c = 
+overflow_mul-result-2 c =
     let few = few_words _ _ _ [] [] c.requires.blocks in
-    let blocks = c.requires.blocks.few in
     search rules
 
 pub overflow_add-result : goal.overflow_add-result
-overflow_add-result c = 
+overflow_add-result c =
     let few = few_words _ _ _ [] [] c.requires.blocks in
-    let blocks = c.requires.blocks.few in
     search rules
 
 pub overflow_add-result-2 : goal.overflow_add-result-2
-overflow_add-result-2 c = 
+overflow_add-result-2 c =
     let few = few_words _ _ _ [] [] c.requires.blocks in
-    let blocks = c.requires.blocks.few in
-    let labels = c.labels_size-a.ensures.small in
     search rules
 
 pub overflow_add-result-3 : goal.overflow_add-result-3
-overflow_add-result-3 c = 
+overflow_add-result-3 c =
     let few = few_words _ _ _ [] [] c.requires.blocks in
-    let blocks = c.requires.blocks.few in
-    let labels = c.labels_size-a.ensures.small in
-    let relocs = c.relocations_size-b.ensures.small in
     search rules
 
 pub returns : goal.returns

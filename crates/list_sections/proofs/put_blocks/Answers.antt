@@ -26,7 +26,7 @@ pub slice_bounds-put_block-end-in-loop-k : goal.slice_bounds-put_block-end-in-lo
 slice_bounds-put_block-end-in-loop-k c = let room = part-marks _ _ _ _ _ _ _ c.requires.blocks_ok c.requires.words_ok c.requires.marks_in_bounds _ _ _ _ _ c.loop-k.invariant c.loop-k-test.true c.wide16-size.ensures.0 in search rules
 
 pub put_block-end-requires : goal.put_block-end-requires
-put_block-end-requires c = 
+put_block-end-requires c =
     let low = part_low _ _ _ _ _ _ _ c.requires.blocks_ok c.requires.words_ok c.requires.marks_in_bounds _ _ _ _ _ c.loop-k.invariant c.loop-k-test.true c.wide16-size.ensures.0 in
     let same = part_same _ _ _ _ _ _ _ c.requires.blocks_ok c.requires.words_ok c.requires.marks_in_bounds _ _ _ _ _ c.loop-k.invariant c.loop-k-test.true c.wide16-size.ensures.0 in
     let room = part-fits _ _ _ _ _ _ _ c.requires.blocks_ok c.requires.words_ok c.requires.marks_in_bounds _ _ _ _ _ c.loop-k.invariant c.loop-k-test.true c.wide16-size.ensures.0 in

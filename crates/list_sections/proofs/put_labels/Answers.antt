@@ -12,10 +12,9 @@ loop-k-init c = search (rules, rows_none)
 
 pub put_label-end-requires : goal.put_label-end-requires
 unfolding view_labels
-put_label-end-requires c = 
-    let pre = c.requires in
-    let low = label-low _ _ _ _ pre.0 c.loop-k-test.true in
-    let room = row_fits label_line _ _ _ _ _ _ _ c.loop-k.invariant pre.1 c.loop-k-test.true in
+put_label-end-requires c =
+    let low = label-low _ _ _ _ c.requires.labels_ok c.loop-k-test.true in
+    let room = row_fits label_line _ _ _ _ _ _ _ c.loop-k.invariant c.requires.names_in_bounds c.loop-k-test.true in
     search rules
 
 pub loop-k-preserved : goal.loop-k-preserved

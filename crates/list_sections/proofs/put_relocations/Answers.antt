@@ -12,10 +12,9 @@ loop-k-init c = search (rules, rows_none)
 
 pub put_relocation-end-requires : goal.put_relocation-end-requires
 unfolding view_relocs
-put_relocation-end-requires c = 
-    let pre = c.requires in
-    let low = pre.0.low _ c.loop-k-test.true in
-    let room = row_fits reloc_line _ _ _ _ _ _ _ c.loop-k.invariant pre.1 c.loop-k-test.true in
+put_relocation-end-requires c =
+    let low = c.requires.relocs_low.low _ c.loop-k-test.true in
+    let room = row_fits reloc_line _ _ _ _ _ _ _ c.loop-k.invariant c.requires.names_in_bounds c.loop-k-test.true in
     search rules
 
 pub loop-k-preserved : goal.loop-k-preserved

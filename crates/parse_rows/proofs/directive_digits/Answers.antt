@@ -26,4 +26,4 @@ returns-in-36 c = sym (ap digits_at c.in-36.is)
 
 pub returns-in_default : goal.returns-in_default
 unfolding table cells digits_at
-returns-in_default c = sym (ap digits_at (last_arm _ 32 5 c.requires.0 c.requires.1 c.in_default.rest))
+returns-in_default c = sym (ap digits_at (last_arm _ 32 5 c.requires.0 c.requires.1 c.in_default.in_default-own.rest))

@@ -131,4 +131,4 @@ returns-in-30 c = sym (ap digits_at c.in-30.is)
 
 pub returns-in_default : goal.returns-in_default
 unfolding table cells digits_at
-returns-in_default c = sym (ap digits_at (last_arm _ 0 31 (omega arith) c.requires c.in_default.rest))
+returns-in_default c = sym (ap digits_at (last_arm _ 0 31 (omega arith) c.requires c.in_default.in_default-own.rest))

@@ -10,7 +10,7 @@ pub loop-st-init : goal.loop-st-init
 loop-st-init c = going_start _ _ _ _ _ _ _ c.requires _ c.begin-t.ensures
 
 pub put_known-t-requires : goal.put_known-t-requires
-put_known-t-requires c = 
+put_known-t-requires c =
     let k = is_known _ _ c.is_known.ensures c.if-is_known.true in
     record { room = going-room _ _ _ _ _ _ _ _ _ _ _ _ _ c.loop-st.invariant _ c.next_statement.ensures _ c.in-Read.is k; bits_bound = going-low _ _ _ _ _ _ _ _ _ _ _ _ _ c.loop-st.invariant _ c.next_statement.ensures _ c.in-Read.is k }
 

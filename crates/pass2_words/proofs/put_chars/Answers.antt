@@ -21,7 +21,7 @@ pub push-requires : goal.push-requires
 push-requires c = search (rules, behind-room)
 
 pub overflow_add-k-in-Char : goal.overflow_add-k-in-Char
-overflow_add-k-in-Char c = 
+overflow_add-k-in-Char c =
     let h = behind-fits _ _ _ _ _ _ _ _ _ _ _ _ _ c.loop-byte.invariant c.plain_end-stop.ensures c.put_plain.ensures (search rules) (search rules) c.string_char.ensures _ _ c.in-Char.is in
     search rules
 

@@ -12,13 +12,13 @@ pub relocations_size-third-requires : goal.relocations_size-third-requires
 relocations_size-third-requires c = relocs-named _ _ c.requires
 
 pub overflow_add-result : goal.overflow_add-result
-overflow_add-result c = let blocks = c.blocks_size-first.ensures.small in let labels = c.labels_size-second.ensures.small in search rules
+overflow_add-result c = search rules
 
 pub overflow_add-result-2 : goal.overflow_add-result-2
-overflow_add-result-2 c = let blocks = c.blocks_size-first.ensures.small in let labels = c.labels_size-second.ensures.small in let relocs = c.relocations_size-third.ensures.small in search rules
+overflow_add-result-2 c = search rules
 
 pub overflow_add-result-3 : goal.overflow_add-result-3
-overflow_add-result-3 c = let blocks = c.blocks_size-first.ensures.small in let labels = c.labels_size-second.ensures.small in let relocs = c.relocations_size-third.ensures.small in search rules
+overflow_add-result-3 c = search rules
 
 pub returns : goal.returns
 returns c = stored-size _ _ _ _ _ c.requires c.blocks_size-first.ensures c.labels_size-second.ensures c.relocations_size-third.ensures

@@ -9,10 +9,10 @@ pub loop-i-init : goal.loop-i-init
 loop-i-init c = search (rules, turned_none)
 
 pub overflow_mul-words : goal.overflow_mul-words
-overflow_mul-words c = let g = c.word8.ensures in let h = c.word8-in-loop-i.ensures in omega (arith, c.shared_slice_known-1.given (c.args.start + c.loop-i.i * 2), c.shared_slice_known-1.given (c.args.start + c.loop-i.i * 2 + 1))
+overflow_mul-words c = omega (arith, c.shared_slice_known-1.given (c.args.start + c.loop-i.i * 2), c.shared_slice_known-1.given (c.args.start + c.loop-i.i * 2 + 1))
 
 pub overflow_add-words : goal.overflow_add-words
-overflow_add-words c = let g = c.word8.ensures in let h = c.word8-in-loop-i.ensures in omega (arith, c.shared_slice_known-1.given (c.args.start + c.loop-i.i * 2), c.shared_slice_known-1.given (c.args.start + c.loop-i.i * 2 + 1))
+overflow_add-words c = omega (arith, c.shared_slice_known-1.given (c.args.start + c.loop-i.i * 2), c.shared_slice_known-1.given (c.args.start + c.loop-i.i * 2 + 1))
 
 pub loop-i-preserved : goal.loop-i-preserved
 loop-i-preserved c = search (rules, turned_more)

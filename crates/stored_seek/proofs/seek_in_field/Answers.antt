@@ -9,7 +9,7 @@ pub returns-then-wanted-here : goal.returns-then-wanted-here
 returns-then-wanted-here c = search (rules, pace-below)
 
 pub returns-then-tag-eq-BLOCK : goal.returns-then-tag-eq-BLOCK
-returns-then-tag-eq-BLOCK c = let d = c.number_from.ensures in search (rules, pace-block)
+returns-then-tag-eq-BLOCK c = search (rules, pace-block)
 
 pub overflow_sub-size : goal.overflow_sub-size
 overflow_sub-size c = (says-found _ _ _ c.field_at.ensures _ _ _ c.in-Found.is).ends
@@ -24,10 +24,10 @@ pub returns-then-tag-eq-SET_WORDS : goal.returns-then-tag-eq-SET_WORDS
 returns-then-tag-eq-SET_WORDS c = search (rules, pace-sets)
 
 pub returns-then-k-size-2 : goal.returns-then-k-size-2
-returns-then-k-size-2 c = let d = c.number_from-size.ensures in search (rules, pace-unset)
+returns-then-k-size-2 c = search (rules, pace-unset)
 
 pub returns-then-tag-eq-UNSET_WORDS : goal.returns-then-tag-eq-UNSET_WORDS
-returns-then-tag-eq-UNSET_WORDS c = let d = c.number_from-size.ensures in search (rules, pace-gap)
+returns-then-tag-eq-UNSET_WORDS c = search (rules, pace-gap)
 
 pub returns-in-Over : goal.returns-in-Over
 returns-in-Over c = search (rules, pace-over)

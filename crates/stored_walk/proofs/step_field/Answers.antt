@@ -38,6 +38,4 @@ pub returns-in-3 : goal.returns-in-3
 returns-in-3 c = stepped-moves c.step_unset.ensures
 
 pub returns-in_default : goal.returns-in_default
-returns-in_default c = 
-    let r = c.in_default.rest in
-    other_tag _ _ _ _ _ _ c.requires.stands r.0.0.0.0.0.0.1 r.0.0.0.0.0.1 r.0.0.0.0.1 r.0.0.0.1 r.0.0.1 r.0.1 r.1
+returns-in_default c = other_tag _ _ _ _ _ _ c.requires.stands c.in_default.in_default-own.rest.0.0.0.0.0.0.1 c.in_default.in_default-own.rest.0.0.0.0.0.1 c.in_default.in_default-own.rest.0.0.0.0.1 c.in_default.in_default-own.rest.0.0.0.1 c.in_default.in_default-own.rest.0.0.1 c.in_default.in_default-own.rest.0.1 c.in_default.in_default-own.rest.1

@@ -7,7 +7,7 @@ pub bounds-places-k : goal.bounds-places-k
 bounds-places-k c = label-index _ _ _ c.requires.going (sym c.label_fits.ensures ∙ c.if-label_fits.true)
 
 pub labelled-requires : goal.labelled-requires
-labelled-requires c = record { labels_bound = labels-less _ (sym c.label_fits.ensures ∙ c.if-label_fits.true); name_bound = label-room _ _ _ _ _ c.requires.named_at _ c.part_of-name.ensures _ c.name_follows.ensures c.requires.going c.if-name_follows.true, }
+labelled-requires c = record { labels_bound = labels-less _ (sym c.label_fits.ensures ∙ c.if-label_fits.true); name_bound = label-room _ _ _ _ _ c.requires.named_at _ c.part_of-name.ensures _ c.name_follows.ensures c.requires.going c.if-name_follows.true }
 
 pub returns-then-name_follows : goal.returns-then-name_follows
 returns-then-name_follows c = label-taken _ _ _ _ _ c.requires.named_at _ c.part_of-name.ensures _ c.name_follows.ensures (sym c.label_fits.ensures ∙ c.if-label_fits.true) c.if-name_follows.true _ c.labelled.ensures

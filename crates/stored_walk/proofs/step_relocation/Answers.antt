@@ -7,7 +7,7 @@ pub returns-then-end-start-lt-NUMBER_BYTES : goal.returns-then-end-start-lt-NUMB
 returns-then-end-start-lt-NUMBER_BYTES c = reloc-short _ _ _ _ _ c.requires.stands c.if-end-start-lt-NUMBER_BYTES.true
 
 pub step_named-requires : goal.step_named-requires
-step_named-requires c = 
+step_named-requires c =
     let wanted = c.wide16-wanted.ensures.0 ∙ c.number_at.ensures in
     record { going = c.requires.going; reloc_at = reloc-at _ _ _ _ _ c.requires.stands c.if-end-start-lt-NUMBER_BYTES.false wanted c.wide16-wanted.ensures.1; wanted_value = sym c.reloc_fits.ensures ∙ c.if-reloc_fits.true }
 

@@ -11,10 +11,10 @@ pub run_ahead-size-requires : goal.run_ahead-size-requires
 run_ahead-size-requires c = search (rules, some-rest)
 
 pub overflow_add-stop : goal.overflow_add-stop
-overflow_add-stop c = let stop = stop-within c.args.marks.now c.loop-i.i c.run_ahead-size.result c.run_ahead-size.ensures c.loop-i-test.true in let few = c.requires.cells_ready.few in search rules
+overflow_add-stop c = let stop = stop-within c.args.marks.now c.loop-i.i c.run_ahead-size.result c.run_ahead-size.ensures c.loop-i-test.true in search rules
 
 pub slice_bounds-put_run-end : goal.slice_bounds-put_run-end
-slice_bounds-put_run-end c = let stop = stop-within c.args.marks.now c.loop-i.i c.run_ahead-size.result c.run_ahead-size.ensures c.loop-i-test.true in let same = c.requires.cells_ready.same in search rules
+slice_bounds-put_run-end c = let stop = stop-within c.args.marks.now c.loop-i.i c.run_ahead-size.result c.run_ahead-size.ensures c.loop-i-test.true in search rules
 
 pub put_run-end-requires : goal.put_run-end-requires
 put_run-end-requires c = search (rules, run_fits, run-fits-in)

@@ -14,10 +14,10 @@ pub run_bytes-size-requires : goal.run_bytes-size-requires
 run_bytes-size-requires c = search (rules, run-some, run-few)
 
 pub overflow_add-size : goal.overflow_add-size
-overflow_add-size c = let stop = stop-within c.args.marks.now c.loop-i.i c.run_ahead-n.result c.run_ahead-n.ensures c.loop-i-test.true in let few = c.requires.marks_len_bound in let sum = c.loop-i.invariant.small in let more = c.run_bytes-size.ensures.small in search rules
+overflow_add-size c = let stop = stop-within c.args.marks.now c.loop-i.i c.run_ahead-n.result c.run_ahead-n.ensures c.loop-i-test.true in search rules
 
 pub overflow_add-i : goal.overflow_add-i
-overflow_add-i c = let stop = stop-within c.args.marks.now c.loop-i.i c.run_ahead-n.result c.run_ahead-n.ensures c.loop-i-test.true in let few = c.requires.marks_len_bound in search rules
+overflow_add-i c = let stop = stop-within c.args.marks.now c.loop-i.i c.run_ahead-n.result c.run_ahead-n.ensures c.loop-i-test.true in search rules
 
 pub loop-i-smaller : goal.loop-i-smaller
 loop-i-smaller c = search (rules, run-less)

@@ -34,9 +34,7 @@ pub label_size-size-requires : goal.label_size-size-requires
 label_size-size-requires c = search (rules, name-low)
 
 pub overflow_add-size : goal.overflow_add-size
-overflow_add-size c = 
-    let rows = c.requires in
-    omega (arith, rows.few, c.loop-k.invariant.small, c.loop-k-test.true, (sized_row rows c.loop-k-test.true c.label_size-size.ensures).small)
+overflow_add-size c = omega (arith, c.requires.few, c.loop-k.invariant.small, c.loop-k-test.true, (sized_row c.requires c.loop-k-test.true c.label_size-size.ensures).small)
 
 pub loop-k-preserved : goal.loop-k-preserved
 loop-k-preserved c = search (rules, added_more, sized_row)

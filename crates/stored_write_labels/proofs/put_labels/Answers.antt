@@ -11,12 +11,11 @@ pub loop-k-init : goal.loop-k-init
 loop-k-init c = search (rules, label-rows, fields-none)
 
 pub put_label-end-requires : goal.put_label-end-requires
-put_label-end-requires c = 
-    let pre = c.requires in
-    let low = label-low _ _ _ _ pre.0 c.loop-k-test.true in
-    let place = (pre.0.rows _ c.loop-k-test.true).place in
-    let short = label-short _ _ _ pre.0 _ c.loop-k-test.true in
-    let room = field_fits label_field _ _ _ _ _ (label-rows _ _ _) _ _ _ c.loop-k.invariant pre.1 c.loop-k-test.true in
+put_label-end-requires c =
+    let low = label-low _ _ _ _ c.requires.labels_ok c.loop-k-test.true in
+    let place = (c.requires.labels_ok.rows _ c.loop-k-test.true).place in
+    let short = label-short _ _ _ c.requires.labels_ok _ c.loop-k-test.true in
+    let room = field_fits label_field _ _ _ _ _ (label-rows _ _ _) _ _ _ c.loop-k.invariant c.requires.names_in_bounds c.loop-k-test.true in
     search rules
 
 pub loop-k-preserved : goal.loop-k-preserved

@@ -10,11 +10,10 @@ pub loop-k-init : goal.loop-k-init
 loop-k-init c = search (rules, reloc-rows, fields-none)
 
 pub put_relocation-end-requires : goal.put_relocation-end-requires
-put_relocation-end-requires c = 
-    let pre = c.requires in
-    let low = pre.0.low _ c.loop-k-test.true in
-    let short = pre.1.0.short _ c.loop-k-test.true in
-    let room = field_fits reloc_field _ _ _ _ _ (reloc-rows _ _ _ _) _ _ _ c.loop-k.invariant pre.1.1 c.loop-k-test.true in
+put_relocation-end-requires c =
+    let low = c.requires.relocs_low.low _ c.loop-k-test.true in
+    let short = c.requires.relocs_named.short _ c.loop-k-test.true in
+    let room = field_fits reloc_field _ _ _ _ _ (reloc-rows _ _ _ _) _ _ _ c.loop-k.invariant c.requires.names_in_bounds c.loop-k-test.true in
     search rules
 
 pub loop-k-preserved : goal.loop-k-preserved

@@ -22,9 +22,7 @@ pub returns-in-37 : goal.returns-in-37
 returns-in-37 c = search (rules, halt-shows)
 
 pub returns-in_default : goal.returns-in_default
-returns-in_default c = 
-    let r = c.in_default.rest in
-    trap-shows _ c.if-word-eq-TRAP_BYTE.true (trap-plain _ r.0.0.0.0.0.1 r.0.0.0.0.1 r.0.0.0.1 r.0.0.1 r.0.1 r.1)
+returns-in_default c = trap-shows _ c.if-word-eq-TRAP_BYTE.true (trap-plain _ c.in_default.in_default-own.rest.0.0.0.0.0.1 c.in_default.in_default-own.rest.0.0.0.0.1 c.in_default.in_default-own.rest.0.0.0.1 c.in_default.in_default-own.rest.0.0.1 c.in_default.in_default-own.rest.0.1 c.in_default.in_default-own.rest.1)
 
 pub returns-else-word-eq-TRAP_BYTE : goal.returns-else-word-eq-TRAP_BYTE
 returns-else-word-eq-TRAP_BYTE c = search (rules, trap-hides)
