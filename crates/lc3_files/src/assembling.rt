@@ -3,8 +3,7 @@ use crate::telling;
 use base_capacities::{SOURCE_BYTES, WORDS};
 use base_refusals::SOURCE_TOO_LONG;
 use lc3_assemble::Assembled;
-use lc3_input::{Input, front};
-use libc::STDERR_FILENO;
+use lc3_input::{Input, STDERR_FILENO, front};
 use stored::STORED_BYTES;
 
 // A source, with these buffers.
@@ -30,8 +29,8 @@ fn assemble_source(path: &[u8], src: &[u8]) -> u8 {
 }
 
 // A file, read into this buffer.
-fn assemble_read(path: &[u8], source: &mut [u8; SOURCE_BYTES]) -> u8 {
-    match lc3_input::read_file(path, source) {
+fn assemble_read(rt: &HostRuntime, path: &[u8], source: &mut [u8; SOURCE_BYTES]) -> u8 {
+    match lc3_input::read_file(rt, path, source) {
         Input::Whole(n) => assemble_source(path, front(source, n)),
         Input::Longer => telling::tell_placeless(STDERR_FILENO, path, SOURCE_TOO_LONG),
         Input::Failed => telling::tell_unread(path),
@@ -39,7 +38,7 @@ fn assemble_read(path: &[u8], source: &mut [u8; SOURCE_BYTES]) -> u8 {
 }
 
 // A file.
-pub fn assemble(path: &[u8]) -> u8 {
+pub fn assemble(rt: &HostRuntime, path: &[u8]) -> u8 {
     let mut source = [0u8; SOURCE_BYTES];
-    assemble_read(path, &mut source)
+    assemble_read(rt, path, &mut source)
 }

@@ -1,8 +1,7 @@
 // Checking files: whether each is the stored form of an object, and what the object has.
 use crate::named::{FILE_BYTES, Held, PATH_BYTES};
 use crate::{named, telling};
-use lc3_input::front;
-use libc::{STDERR_FILENO, STDOUT_FILENO};
+use lc3_input::{STDERR_FILENO, STDOUT_FILENO, front};
 use object_answer::{Answer, counts_of};
 
 // Room for a line of counts.
@@ -31,32 +30,32 @@ fn check_bytes(path: &[u8], bytes: &[u8], silent: bool) -> u8 {
 }
 
 // A file, read into this buffer.
-fn check_read(path: &[u8], bytes: &mut [u8; FILE_BYTES], silent: bool) -> u8 {
-    match named::read_stored(path, bytes) {
+fn check_read(rt: &HostRuntime, path: &[u8], bytes: &mut [u8; FILE_BYTES], silent: bool) -> u8 {
+    match named::read_stored(rt, path, bytes) {
         Held::Bytes(n) => check_bytes(path, front(bytes, n), silent),
         Held::Unread => telling::FAILED,
     }
 }
 
 // A file.
-fn check_file(path: &[u8], silent: bool) -> u8 {
+fn check_file(rt: &HostRuntime, path: &[u8], silent: bool) -> u8 {
     let mut bytes = [0u8; FILE_BYTES];
-    check_read(path, &mut bytes, silent)
+    check_read(rt, path, &mut bytes, silent)
 }
 
 // The file that an argument names.
-pub fn check_argument(i: usize, silent: bool) -> u8 {
+pub fn check_argument(rt: &HostRuntime, i: usize, silent: bool) -> u8 {
     let mut path = [0u8; PATH_BYTES];
-    let size = os::arg(i, &mut path);
-    check_file(&path[..size], silent)
+    let size = named::argument(rt, i, &mut path);
+    check_file(rt, &path[..size], silent)
 }
 
 // The files of the arguments from one up to another: the worst answer.
-pub fn check_all(first: usize, end: usize, silent: bool) -> u8 {
+pub fn check_all(rt: &HostRuntime, first: usize, end: usize, silent: bool) -> u8 {
     let mut worst = telling::ACCEPTED;
     let mut i = first;
     while i < end {
-        worst = telling::worse(worst, check_argument(i, silent));
+        worst = telling::worse(worst, check_argument(rt, i, silent));
         i += 1;
     }
     worst

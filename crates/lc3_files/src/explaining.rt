@@ -3,8 +3,7 @@ use crate::named::{FILE_BYTES, Held};
 use crate::{named, telling};
 use base_refusals::SOURCE_TOO_LONG;
 use lc3_assemble::Assembled;
-use lc3_input::{Input, front};
-use libc::STDOUT_FILENO;
+use lc3_input::{Input, STDOUT_FILENO, front};
 use list_print::{SOURCE_BYTES, WORDS};
 use object::Counts;
 use object_answer::counts_of;
@@ -114,8 +113,8 @@ fn show_source(path: &[u8], src: &[u8]) -> u8 {
 }
 
 // A file of source, read into this buffer.
-fn source_read(path: &[u8], source: &mut [u8; SOURCE_BYTES]) -> u8 {
-    match lc3_input::read_file(path, source) {
+fn source_read(rt: &HostRuntime, path: &[u8], source: &mut [u8; SOURCE_BYTES]) -> u8 {
+    match lc3_input::read_file(rt, path, source) {
         Input::Whole(n) => show_source(path, front(source, n)),
         Input::Longer => telling::tell_placeless(STDOUT_FILENO, path, SOURCE_TOO_LONG),
         Input::Failed => telling::tell_unread(path),
@@ -123,21 +122,21 @@ fn source_read(path: &[u8], source: &mut [u8; SOURCE_BYTES]) -> u8 {
 }
 
 // A file of source.
-pub fn explain_source(path: &[u8]) -> u8 {
+pub fn explain_source(rt: &HostRuntime, path: &[u8]) -> u8 {
     let mut source = [0u8; SOURCE_BYTES];
-    source_read(path, &mut source)
+    source_read(rt, path, &mut source)
 }
 
 // A file of a stored object, read into this buffer.
-fn object_read(path: &[u8], bytes: &mut [u8; FILE_BYTES]) -> u8 {
-    match named::read_stored(path, bytes) {
+fn object_read(rt: &HostRuntime, path: &[u8], bytes: &mut [u8; FILE_BYTES]) -> u8 {
+    match named::read_stored(rt, path, bytes) {
         Held::Bytes(n) => show_stored(path, front(bytes, n)),
         Held::Unread => telling::FAILED,
     }
 }
 
 // A file of a stored object.
-pub fn explain_object(path: &[u8]) -> u8 {
+pub fn explain_object(rt: &HostRuntime, path: &[u8]) -> u8 {
     let mut bytes = [0u8; FILE_BYTES];
-    object_read(path, &mut bytes)
+    object_read(rt, path, &mut bytes)
 }

@@ -3,9 +3,8 @@
 use crate::named::{FILE_BYTES, Held, PATH_BYTES};
 use crate::{checking, named, telling};
 use base_capacities::NAME_BYTES;
-use lc3_input::front;
+use lc3_input::{STDERR_FILENO, front};
 use lc3_link::Linked;
-use libc::STDERR_FILENO;
 use std::num::wrapping_add_usize;
 use view_text::put;
 
@@ -21,13 +20,14 @@ const PAIR_BYTES: usize = 2 * PATH_BYTES + 8;
 
 // A file, read into the buffer `second`, linked to what stands at the front of the bytes.
 fn link_read(
+    rt: &HostRuntime,
     bytes: &mut [u8],
     size: usize,
     path: &[u8],
     second: &mut [u8; FILE_BYTES],
     name: &mut [u8],
 ) -> Linked {
-    match named::read_stored(path, second) {
+    match named::read_stored(rt, path, second) {
         Held::Bytes(k) => lc3_link::link_stored(bytes, size, front(second, k), name),
         Held::Unread => Linked {
             number: base_refusals::BAD_FIELD,
@@ -38,34 +38,46 @@ fn link_read(
 }
 
 // A file linked to what stands at the front of the bytes.
-fn link_file(bytes: &mut [u8], size: usize, path: &[u8], name: &mut [u8]) -> Linked {
+fn link_file(
+    rt: &HostRuntime,
+    bytes: &mut [u8],
+    size: usize,
+    path: &[u8],
+    name: &mut [u8],
+) -> Linked {
     let mut second = [0u8; FILE_BYTES];
-    link_read(bytes, size, path, &mut second, name)
+    link_read(rt, bytes, size, path, &mut second, name)
 }
 
 // The file of an argument linked to what stands at the front of the bytes.
-fn link_argument(bytes: &mut [u8], size: usize, i: usize, name: &mut [u8]) -> Linked {
+fn link_argument(
+    rt: &HostRuntime,
+    bytes: &mut [u8],
+    size: usize,
+    i: usize,
+    name: &mut [u8],
+) -> Linked {
     let mut path = [0u8; PATH_BYTES];
-    let n = os::arg(i, &mut path);
-    link_file(bytes, size, &path[..n], name)
+    let n = named::argument(rt, i, &mut path);
+    link_file(rt, bytes, size, &path[..n], name)
 }
 
 // The size of the stored object of an argument, read to the front of the bytes.
-fn read_argument(bytes: &mut [u8], i: usize) -> Step {
+fn read_argument(rt: &HostRuntime, bytes: &mut [u8], i: usize) -> Step {
     let mut path = [0u8; PATH_BYTES];
-    let n = os::arg(i, &mut path);
-    match named::read_stored(&path[..n], bytes) {
+    let n = named::argument(rt, i, &mut path);
+    match named::read_stored(rt, &path[..n], bytes) {
         Held::Bytes(size) => Step::Size(size),
         Held::Unread => Step::Stop(telling::FAILED),
     }
 }
 
 // Tells that two files cannot be linked, and the name that stands in the way, if it is a name.
-fn tell_pair(j: usize, i: usize, number: u16, name: &[u8]) -> u8 {
+fn tell_pair(rt: &HostRuntime, j: usize, i: usize, number: u16, name: &[u8]) -> u8 {
     let mut first = [0u8; PATH_BYTES];
-    let a = os::arg(j, &mut first);
+    let a = named::argument(rt, j, &mut first);
     let mut second = [0u8; PATH_BYTES];
-    let b = os::arg(i, &mut second);
+    let b = named::argument(rt, i, &mut second);
     let mut pair = [0u8; PAIR_BYTES];
     let c = put(&mut pair, 0, &first[..a]);
     let d = put(&mut pair, c, b" and ");
@@ -81,13 +93,19 @@ fn tell_pair(j: usize, i: usize, number: u16, name: &[u8]) -> u8 {
 }
 
 // Whether the files of two arguments by themselves, linked in this buffer, are refused with this number; then it is told.
-fn blame_with(bytes: &mut [u8; FILE_BYTES], j: usize, i: usize, number: u16) -> bool {
+fn blame_with(
+    rt: &HostRuntime,
+    bytes: &mut [u8; FILE_BYTES],
+    j: usize,
+    i: usize,
+    number: u16,
+) -> bool {
     let mut name = [0u8; NAME_BYTES];
-    match read_argument(bytes, j) {
+    match read_argument(rt, bytes, j) {
         Step::Size(size) => {
-            let linked = link_argument(bytes, size, i, &mut name);
+            let linked = link_argument(rt, bytes, size, i, &mut name);
             if linked.number == number {
-                tell_pair(j, i, number, front(&name, linked.named));
+                tell_pair(rt, j, i, number, front(&name, linked.named));
                 return true;
             }
             false
@@ -96,16 +114,16 @@ fn blame_with(bytes: &mut [u8; FILE_BYTES], j: usize, i: usize, number: u16) -> 
     }
 }
 
-fn blame_pair(j: usize, i: usize, number: u16) -> bool {
+fn blame_pair(rt: &HostRuntime, j: usize, i: usize, number: u16) -> bool {
     let mut bytes = [0u8; FILE_BYTES];
-    blame_with(&mut bytes, j, i, number)
+    blame_with(rt, &mut bytes, j, i, number)
 }
 
 // Tells why the file of an argument cannot be linked to those before it: which of them stands in its way; 40 and 41 are of all together.
-fn blame(first: usize, i: usize, number: u16) -> u8 {
+fn blame(rt: &HostRuntime, first: usize, i: usize, number: u16) -> u8 {
     let mut j = first;
     while j < i {
-        if blame_pair(j, i, number) {
+        if blame_pair(rt, j, i, number) {
             return telling::REFUSED;
         }
         j += 1;
@@ -114,21 +132,21 @@ fn blame(first: usize, i: usize, number: u16) -> u8 {
 }
 
 // The file of an argument linked to those before it, whose link stands at the front of the bytes.
-fn link_next(bytes: &mut [u8], size: usize, first: usize, i: usize) -> Step {
+fn link_next(rt: &HostRuntime, bytes: &mut [u8], size: usize, first: usize, i: usize) -> Step {
     let mut name = [0u8; NAME_BYTES];
-    let linked = link_argument(bytes, size, i, &mut name);
+    let linked = link_argument(rt, bytes, size, i, &mut name);
     if linked.number == 0 {
         return Step::Size(linked.size);
     }
-    Step::Stop(blame(first, i, linked.number))
+    Step::Stop(blame(rt, first, i, linked.number))
 }
 
 // The rest of a list, linked to its first file; the result goes to standard output.
-fn link_rest(bytes: &mut [u8], start: usize, first: usize, end: usize) -> u8 {
+fn link_rest(rt: &HostRuntime, bytes: &mut [u8], start: usize, first: usize, end: usize) -> u8 {
     let mut size = start;
     let mut i = wrapping_add_usize(first, 1);
     while i < end {
-        match link_next(bytes, size, first, i) {
+        match link_next(rt, bytes, size, first, i) {
             Step::Size(n) => {
                 size = n;
                 i += 1;
@@ -142,19 +160,19 @@ fn link_rest(bytes: &mut [u8], start: usize, first: usize, end: usize) -> u8 {
 }
 
 // The files of the arguments from one up to another, linked in this buffer.
-fn link_with(bytes: &mut [u8; FILE_BYTES], first: usize, end: usize) -> u8 {
-    match read_argument(bytes, first) {
-        Step::Size(size) => link_rest(bytes, size, first, end),
+fn link_with(rt: &HostRuntime, bytes: &mut [u8; FILE_BYTES], first: usize, end: usize) -> u8 {
+    match read_argument(rt, bytes, first) {
+        Step::Size(size) => link_rest(rt, bytes, size, first, end),
         Step::Stop(status) => status,
     }
 }
 
 // The files of the arguments from one up to another. Each is checked first, so that every file that is no object is named.
-pub fn link_files(first: usize, end: usize) -> u8 {
-    let worst = checking::check_all(first, end, true);
+pub fn link_files(rt: &HostRuntime, first: usize, end: usize) -> u8 {
+    let worst = checking::check_all(rt, first, end, true);
     if worst != telling::ACCEPTED {
         return worst;
     }
     let mut bytes = [0u8; FILE_BYTES];
-    link_with(&mut bytes, first, end)
+    link_with(rt, &mut bytes, first, end)
 }

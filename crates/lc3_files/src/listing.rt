@@ -18,15 +18,15 @@ fn list_bytes(bytes: &[u8]) -> u8 {
 }
 
 // A file, read into this buffer.
-fn list_read(path: &[u8], bytes: &mut [u8; FILE_BYTES]) -> u8 {
-    match named::read_stored(path, bytes) {
+fn list_read(rt: &HostRuntime, path: &[u8], bytes: &mut [u8; FILE_BYTES]) -> u8 {
+    match named::read_stored(rt, path, bytes) {
         Held::Bytes(n) => list_bytes(front(bytes, n)),
         Held::Unread => telling::FAILED,
     }
 }
 
 // A file.
-pub fn list(path: &[u8]) -> u8 {
+pub fn list(rt: &HostRuntime, path: &[u8]) -> u8 {
     let mut bytes = [0u8; FILE_BYTES];
-    list_read(path, &mut bytes)
+    list_read(rt, path, &mut bytes)
 }

@@ -30,52 +30,52 @@ fn is(word: &[u8], other: &[u8]) -> bool {
 }
 
 // One file, by what is to be done with it.
-fn run_on_file(word: &[u8], path: &[u8]) -> u8 {
+fn run_on_file(rt: &HostRuntime, word: &[u8], path: &[u8]) -> u8 {
     if is(word, b"assemble") {
-        return assembling::assemble(path);
+        return assembling::assemble(rt, path);
     }
     if is(word, b"list") {
-        return listing::list(path);
+        return listing::list(rt, path);
     }
     if is(word, b"explain") {
-        return explaining::explain_source(path);
+        return explaining::explain_source(rt, path);
     }
     if is(word, b"explain-object") {
-        return explaining::explain_object(path);
+        return explaining::explain_object(rt, path);
     }
     telling::FAILED
 }
 
 // The file that an argument names.
-fn run_on_argument(word: &[u8], i: usize) -> u8 {
+fn run_on_argument(rt: &HostRuntime, word: &[u8], i: usize) -> u8 {
     let mut path = [0u8; PATH_BYTES];
-    let n = os::arg(i, &mut path);
-    run_on_file(word, &path[..n])
+    let n = named::argument(rt, i, &mut path);
+    run_on_file(rt, word, &path[..n])
 }
 
 // The files that the arguments up to the last name: the worst answer.
-fn run_on_all(word: &[u8], end: usize) -> u8 {
+fn run_on_all(rt: &HostRuntime, word: &[u8], end: usize) -> u8 {
     let mut worst = telling::ACCEPTED;
     let mut i = FIRST_FILE;
     while i < end {
-        worst = telling::worse(worst, run_on_argument(word, i));
+        worst = telling::worse(worst, run_on_argument(rt, word, i));
         i += 1;
     }
     worst
 }
 
-fn run(word: &[u8]) -> u8 {
+fn run(rt: &HostRuntime, word: &[u8]) -> u8 {
     if is(word, b"link") {
-        return linking::link_files(FIRST_FILE, os::arg_count());
+        return linking::link_files(rt, FIRST_FILE, named::argument_count(rt));
     }
     if is(word, b"check") {
-        return checking::check_all(FIRST_FILE, os::arg_count(), false);
+        return checking::check_all(rt, FIRST_FILE, named::argument_count(rt), false);
     }
-    run_on_all(word, os::arg_count())
+    run_on_all(rt, word, named::argument_count(rt))
 }
 
-fn main() {
+fn main(rt: HostRuntime) {
     let mut word = [0u8; WORD_BYTES];
-    let n = os::arg(COMMAND, &mut word);
-    telling::tell_status(run(&word[..n]));
+    let n = named::argument(&rt, COMMAND, &mut word);
+    telling::tell_status(run(&rt, &word[..n]));
 }

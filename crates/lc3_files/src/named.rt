@@ -1,5 +1,8 @@
 // The files that arguments name: their names, and the stored bytes that they hold.
+ghost use Rattle.io.specs.Counts.{IsPrefixLen};
+
 use lc3_input::Input;
+use std::env::{Env, FillError};
 use stored::STORED_BYTES;
 
 // How long a file's name is at most.
@@ -16,8 +19,8 @@ pub enum Held {
 }
 
 // The file's bytes into a buffer; of a longer file as many as there is room for.
-pub fn read_stored(path: &[u8], bytes: &mut [u8]) -> Held {
-    match lc3_input::read_file(path, bytes) {
+pub fn read_stored(rt: &HostRuntime, path: &[u8], bytes: &mut [u8]) -> Held {
+    match lc3_input::read_file(rt, path, bytes) {
         Input::Whole(n) => Held::Bytes(n),
         Input::Longer => Held::Bytes(bytes.len()),
         Input::Failed => {
@@ -25,4 +28,34 @@ pub fn read_stored(path: &[u8], bytes: &mut [u8]) -> Held {
             Held::Unread
         }
     }
+}
+
+// The argument at a place into a buffer: its length, or 0 where there is none or it is longer than the buffer.
+pub fn argument(rt: &HostRuntime, i: usize, buffer: &mut [u8]) -> usize
+    ensures { IsPrefixLen result buffer.new }
+{
+    match rt.arg(i, buffer) {
+        Ok(n) => n,
+        Err(_) => 0,
+    }
+}
+
+// Whether there is an argument at a place.
+fn is_argument(rt: &HostRuntime, i: usize) -> bool {
+    let mut byte = [0u8; 1];
+    match rt.arg(i, &mut byte) {
+        Ok(_) => true,
+        Err(FillError::TooLong) => true,
+        Err(FillError::NotPresent) => false,
+    }
+}
+
+// How many arguments there are, the program's own name among them.
+pub fn argument_count(rt: &HostRuntime) -> usize {
+    for i in 0..usize::MAX {
+        if !is_argument(rt, i) {
+            return i;
+        }
+    }
+    usize::MAX
 }

@@ -1,6 +1,6 @@
 // What the program tells: texts on standard output and standard error, and its answer to whoever runs it.
 pub use lc3_input::{ACCEPTED, FAILED, REFUSED};
-use libc::{STDERR_FILENO, STDOUT_FILENO};
+use lc3_input::{STDERR_FILENO, STDOUT_FILENO};
 use object_answer::Answer;
 
 // Room for what is told of a refusal: two places, each after a file's name.

@@ -1,10 +1,13 @@
-// What the programs behind ./lc3 share: a file or standard input read into a lent buffer, an error told apart from its end, and the byte by which an answer is told to whoever runs the program.
+// What the programs share: a file or standard input read into a lent buffer, an error told apart from its end, a file told that cannot be opened, and the byte by which an answer is told to
+// whoever runs ./lc3.
 #![tactic(auto)]
 
 ghost use Rattle.std.specs.Prelude.{◌≡◌};
+ghost use Rattle.io.specs.Counts.{IsPrefixLen};
 ghost use Rattle.lc3_input.specs.Held.{Held, first_of, status_of};
 
-use libc::STDIN_FILENO;
+use std::fs::{File, Files};
+use std::io::{Eprint, Error, Input as StandardInput, Read};
 
 // What an input was: all of it, so many bytes at the front of the buffer; longer than the buffer; or not to be read to its end.
 #[derive(Clone, Copy)]
@@ -13,6 +16,11 @@ pub enum Input {
     Longer,
     Failed,
 }
+
+// The descriptors that a program writes to.
+pub const STDOUT_FILENO: i32 = 1;
+
+pub const STDERR_FILENO: i32 = 2;
 
 // Where ./lc3 waits for the answer.
 pub const STATUS_FILENO: i32 = 3;
@@ -34,38 +42,74 @@ pub fn status_of(accepted: bool) -> u8
     REFUSED
 }
 
-// An open file to its end. After what was read one more byte is asked for: there is none at the end of the input, one where it is longer than the buffer, and an error where reading failed.
-pub fn read_input(file: i32, buffer: &mut [u8]) -> Input
-    ensures { Held buffer.new result }
+// An open file into the buffer, until it is full, the input ends or a read fails: how many bytes it put there.
+pub fn fill<R: Read>(file: &mut R, buffer: &mut [u8]) -> usize
+    ensures { IsPrefixLen result buffer.new }
 {
-    let size = io::read_full(file, buffer);
-    let mut more = [0u8; 1];
-    let next = libc::read(file, &mut more);
-    if next == 0 {
-        return Input::Whole(size);
+    let mut done = 0;
+    while done < buffer.len() {
+        match file.read(&mut buffer[done..]) {
+            Ok(n) => {
+                if n == 0 {
+                    return done;
+                }
+                done += n;
+            }
+            Err(_) => {
+                return done;
+            }
+        }
     }
-    if (next == 1) & (size == buffer.len()) {
-        return Input::Longer;
-    }
-    Input::Failed
+    done
 }
 
-// A file by its name; `-` is standard input.
-pub fn read_file(path: &[u8], buffer: &mut [u8]) -> Input
+// An open file to its end. After what was read one more byte is asked for: there is none at the end of the input, one where it is longer than the buffer, and an error where reading failed.
+pub fn read_input<R: Read>(file: &mut R, buffer: &mut [u8]) -> Input
+    ensures { Held buffer.new result }
+{
+    let size = fill(file, buffer);
+    let mut more = [0u8; 1];
+    match file.read(&mut more) {
+        Ok(next) => {
+            if next == 0 {
+                return Input::Whole(size);
+            }
+            if size == buffer.len() {
+                return Input::Longer;
+            }
+            Input::Failed
+        }
+        Err(_) => Input::Failed,
+    }
+}
+
+// A file by its name, which is UTF-8; any other names no file that can be read. `-` is standard input.
+pub fn read_file<R: Files + StandardInput>(rt: &R, path: &[u8], buffer: &mut [u8]) -> Input
     ensures { Held buffer.new result }
 {
     if path.len() == 1 {
         if path[0] == b'-' {
-            return read_input(STDIN_FILENO, buffer);
+            return read_input(&mut rt.reader(), buffer);
         }
     }
-    let file = os::open_read(path);
-    if file < 0 {
-        return Input::Failed;
+    match str::from_utf8(path) {
+        Ok(name) => read_named(rt, name, buffer),
+        Err(_) => Input::Failed,
     }
-    let input = read_input(file, buffer);
-    libc::close(file);
-    input
+}
+
+fn read_named<R: Files>(rt: &R, name: &str, buffer: &mut [u8]) -> Input
+    ensures { Held buffer.new result }
+{
+    match File::open(rt, name) {
+        Ok(mut file) => read_input(&mut file, buffer),
+        Err(_) => Input::Failed,
+    }
+}
+
+// Tells on standard error that a file could not be opened, and why.
+pub fn tell_unopened<R: Eprint>(rt: &R, path: &str, error: Error) {
+    let _ = eprintln!(rt; "{path}: {error}");
 }
 
 // The first n bytes, as far as they are there.

@@ -3,9 +3,9 @@
 
 ghost use Rattle.std.specs.Prelude.{◌≡◌, true, ◌≤◌, length};
 
-use lc3_input::{Input, STATUS_FILENO};
-use libc::{STDERR_FILENO, STDIN_FILENO, STDOUT_FILENO};
+use lc3_input::{Input, STATUS_FILENO, STDERR_FILENO, STDOUT_FILENO};
 use list_print::{LISTING_BYTES, SOURCE_BYTES};
+use std::io::Input as StandardInput;
 
 // The first n bytes of a text on standard output; whether all were written.
 fn print_front(text: &[u8], n: usize) -> bool
@@ -57,8 +57,8 @@ fn print_longer(src: &[u8]) {
 }
 
 // Reads standard input and lists it.
-fn list_input(source: &mut [u8]) {
-    match lc3_input::read_input(STDIN_FILENO, source) {
+fn list_input(rt: &HostRuntime, source: &mut [u8]) {
+    match lc3_input::read_input(&mut rt.reader(), source) {
         Input::Whole(size) => print_whole(lc3_input::front(source, size)),
         Input::Longer => print_longer(source),
         Input::Failed => {
@@ -67,7 +67,7 @@ fn list_input(source: &mut [u8]) {
     }
 }
 
-fn main() {
+fn main(rt: HostRuntime) {
     let mut source = [0u8; SOURCE_BYTES];
-    list_input(&mut source);
+    list_input(&rt, &mut source);
 }

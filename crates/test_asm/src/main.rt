@@ -1,8 +1,9 @@
 // Replays answers of assembling: each source of data/vectors_1.txt and vectors_2.txt into buffers of the sizes named there. Writes those that differ, and at the end how many were replayed.
 #![tactic(auto)]
 
-use libc::STDOUT_FILENO;
+use lc3_input::STDOUT_FILENO;
 use object_answer::Answer;
+use std::fs::File;
 use test_replay::Lacking;
 
 // Whether a source of so many bytes is answered as asked.
@@ -48,28 +49,33 @@ const FILE: usize = 327680;
 const SOURCE: usize = 262146;
 
 // Replays the lines of an open file, read into `data`, and answers how many there are.
-fn replay_open(file: i32, data: &mut [u8; FILE], src: &mut [u8; SOURCE]) -> u64 {
-    let got = io::read_full(file, data);
-    libc::close(file);
+fn replay_open(mut file: File, data: &mut [u8; FILE], src: &mut [u8; SOURCE]) -> u64 {
+    let got = lc3_input::fill(&mut file, data);
     let read: &[u8] = data;
     replay_all(&read[..got], src)
 }
 
-// Replays the lines of a file and answers how many there are.
-fn replay_file(path: &[u8]) -> u64 {
-    let file = os::open_read(path);
-    if file < 0 {
-        os::fail(path);
-        return 0;
-    }
+// Replays the lines of an open file and answers how many there are.
+fn replay_whole(file: File) -> u64 {
     let mut data = [0u8; FILE];
     let mut src = [0u8; SOURCE];
     replay_open(file, &mut data, &mut src)
 }
 
-fn main() {
-    let first = replay_file(b"vectors_1.txt");
-    let second = replay_file(b"vectors_2.txt");
+// Replays the lines of a file and answers how many there are.
+fn replay_file(rt: &HostRuntime, path: &str) -> u64 {
+    match File::open(rt, path) {
+        Ok(file) => replay_whole(file),
+        Err(error) => {
+            lc3_input::tell_unopened(rt, path, error);
+            0
+        }
+    }
+}
+
+fn main(rt: HostRuntime) {
+    let first = replay_file(&rt, "vectors_1.txt");
+    let second = replay_file(&rt, "vectors_2.txt");
     io::print_decimal(STDOUT_FILENO, std::num::wrapping_add_u64(first, second));
     io::write_all(STDOUT_FILENO, b"\n");
 }

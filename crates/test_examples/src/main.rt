@@ -2,7 +2,7 @@
 // places that are easy to underline wrongly, and each kind of note.
 #![tactic(auto)]
 
-use libc::STDOUT_FILENO;
+use lc3_input::STDOUT_FILENO;
 use object_answer::{Answer, Written};
 
 // How many words an example may have, and how many bytes its listing.

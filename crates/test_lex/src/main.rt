@@ -2,11 +2,12 @@
 #![tactic(auto)]
 
 use base_casts::{wide8, word8};
+use lc3_input::STDOUT_FILENO;
 use lex_literals::StringChar;
 use lex_reserved::Ident;
 use lex_source::Lexed;
 use lex_token::{Next, Token};
-use libc::STDOUT_FILENO;
+use std::fs::File;
 use std::num::{wrapping_add_u16, wrapping_add_usize};
 
 // An answer of a vector, as data/README.md says: its sort and value, its span, and how many bytes its text has with their checksum.
@@ -295,23 +296,25 @@ const FILE: usize = 262144;
 const SOURCE: usize = 262146;
 
 // Replays the vectors of an open file, read into `data`, and answers how many there are.
-fn replay_open(file: i32, data: &mut [u8; FILE], src: &mut [u8; SOURCE]) -> u64 {
-    let got = io::read_full(file, data);
-    libc::close(file);
+fn replay_open(mut file: File, data: &mut [u8; FILE], src: &mut [u8; SOURCE]) -> u64 {
+    let got = lc3_input::fill(&mut file, data);
     let read: &[u8] = data;
     replay_all(&read[..got], src)
 }
 
-fn main() {
-    let path = b"vectors.bin";
-    let file = os::open_read(path);
-    if file < 0 {
-        os::fail(path);
-        return;
-    }
+// Replays the vectors of an open file, and writes how many there are.
+fn replay_file(file: File) {
     let mut data = [0u8; FILE];
     let mut src = [0u8; SOURCE];
     let count = replay_open(file, &mut data, &mut src);
     io::print_decimal(STDOUT_FILENO, count);
     io::write_all(STDOUT_FILENO, b"\n");
+}
+
+fn main(rt: HostRuntime) {
+    let path = "vectors.bin";
+    match File::open(&rt, path) {
+        Ok(file) => replay_file(file),
+        Err(error) => lc3_input::tell_unopened(&rt, path, error),
+    }
 }

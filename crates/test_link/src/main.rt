@@ -2,8 +2,9 @@
 // those that differ, and at the end how many were replayed.
 #![tactic(auto)]
 
-use libc::STDOUT_FILENO;
+use lc3_input::STDOUT_FILENO;
 use object_answer::Answer;
+use std::fs::File;
 use std::num::wrapping_add_usize;
 use test_replay::Lacking;
 
@@ -327,21 +328,23 @@ fn replay_all(data: &[u8]) -> u64 {
 }
 
 // Replays the lines of an open file, read into `data`, and answers how many there are.
-fn replay_open(file: i32, data: &mut [u8; FILE]) -> u64 {
-    let got = io::read_full(file, data);
-    libc::close(file);
+fn replay_open(mut file: File, data: &mut [u8; FILE]) -> u64 {
+    let got = lc3_input::fill(&mut file, data);
     let read: &[u8] = data;
     replay_all(&read[..got])
 }
 
-fn main() {
-    let path = b"vectors.txt";
-    let file = os::open_read(path);
-    if file < 0 {
-        os::fail(path);
-        return;
-    }
+// Replays the lines of an open file, and writes how many there are.
+fn replay_file(file: File) {
     let mut data = [0u8; FILE];
     io::print_decimal(STDOUT_FILENO, replay_open(file, &mut data));
     io::write_all(STDOUT_FILENO, b"\n");
+}
+
+fn main(rt: HostRuntime) {
+    let path = "vectors.txt";
+    match File::open(&rt, path) {
+        Ok(file) => replay_file(file),
+        Err(error) => lc3_input::tell_unopened(&rt, path, error),
+    }
 }

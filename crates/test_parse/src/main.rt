@@ -2,8 +2,9 @@
 #![tactic(auto)]
 
 use base_casts::wide16;
-use libc::STDOUT_FILENO;
+use lc3_input::STDOUT_FILENO;
 use parse::Statements;
+use std::fs::File;
 
 // A refusal by its number and place, or three zeros.
 #[derive(Clone, Copy)]
@@ -81,23 +82,25 @@ const FILE: usize = 131072;
 const SOURCE: usize = 1024;
 
 // Replays the lines of an open file, read into `data`, and answers how many there are.
-fn replay_open(file: i32, data: &mut [u8; FILE], src: &mut [u8; SOURCE]) -> u64 {
-    let got = io::read_full(file, data);
-    libc::close(file);
+fn replay_open(mut file: File, data: &mut [u8; FILE], src: &mut [u8; SOURCE]) -> u64 {
+    let got = lc3_input::fill(&mut file, data);
     let read: &[u8] = data;
     replay_all(&read[..got], src)
 }
 
-fn main() {
-    let path = b"vectors.txt";
-    let file = os::open_read(path);
-    if file < 0 {
-        os::fail(path);
-        return;
-    }
+// Replays the lines of an open file, and writes how many there are.
+fn replay_file(file: File) {
     let mut data = [0u8; FILE];
     let mut src = [0u8; SOURCE];
     let count = replay_open(file, &mut data, &mut src);
     io::print_decimal(STDOUT_FILENO, count);
     io::write_all(STDOUT_FILENO, b"\n");
+}
+
+fn main(rt: HostRuntime) {
+    let path = "vectors.txt";
+    match File::open(&rt, path) {
+        Ok(file) => replay_file(file),
+        Err(error) => lc3_input::tell_unopened(&rt, path, error),
+    }
 }

@@ -6,7 +6,8 @@ ghost use Rattle.std.specs.Prelude.{◌<◌};
 use isa::disassembly::Line;
 use isa::{AsmInstr, ImmOrReg};
 use isa_fields::Encoded;
-use libc::STDOUT_FILENO;
+use lc3_input::STDOUT_FILENO;
+use std::fs::File;
 
 // The names of the list, five letters each.
 const NAMES: [u8; 130] =
@@ -300,16 +301,10 @@ fn print_count(n: u32, what: &[u8]) {
     io::write_all(STDOUT_FILENO, what);
 }
 
-fn main() {
-    let path = b"list";
-    let fd = os::open_read(path);
-    if fd < 0 {
-        os::fail(path);
-        return;
-    }
+// Goes through the list of an open file.
+fn replay_open(mut file: File) {
     let mut buffer = io::large_buffer();
-    let n = io::read_full(fd, &mut buffer);
-    libc::close(fd);
+    let n = lc3_input::fill(&mut file, &mut buffer);
     let c = count_list(&buffer[0..n]);
     print_count(c.words, b" words\n");
     print_count(c.instructions, b" instructions that encode to their word\n");
@@ -317,4 +312,12 @@ fn main() {
     print_count(c.listed, b" as listed\n");
     print_count(c.apart, b" set apart\n");
     print_count(c.wrong, b" wrong\n");
+}
+
+fn main(rt: HostRuntime) {
+    let path = "list";
+    match File::open(&rt, path) {
+        Ok(file) => replay_open(file),
+        Err(error) => lc3_input::tell_unopened(&rt, path, error),
+    }
 }

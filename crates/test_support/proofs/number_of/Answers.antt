@@ -1,5 +1,4 @@
 -- `test_support::number_of` meets its contract. Assumes nothing.
-use Prim.Native.Nat.{◌-◌}
 use mathlib.Core.Path.{◌∙◌}
 use Rattle.test_support.proofs.Reading.{counting-start, counting_more, counting-all}
 use Rattle.test_support.proofs.number_of.Goals as goal

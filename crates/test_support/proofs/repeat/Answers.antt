@@ -1,5 +1,4 @@
 -- `test_support::repeat` meets its contract. Assumes nothing.
-use Prim.Native.Nat.{◌-◌}
 use Rattle.test_support.proofs.Writing.{copying-start, copying-more, copying-size, copying-all}
 use Rattle.test_support.proofs.repeat.Goals as goal
 

@@ -1,5 +1,4 @@
 -- `test_support::repeat_hex` meets its contract. Assumes nothing.
-use Prim.Native.Nat.{◌-◌}
 use Rattle.test_support.proofs.Writing.{repeating-start, repeating-more, repeating-size, repeating-all}
 use Rattle.test_support.proofs.repeat_hex.Goals as goal
 

@@ -1,5 +1,4 @@
 -- `test_support::same_hex` meets its contract. Assumes nothing.
-use Prim.Native.Nat.{◌-◌}
 use Rattle.test_support.proofs.Reading.{alike-start, alike-short, alike-more, alike-differs, alike_end}
 use Rattle.test_support.proofs.same_hex.Goals as goal
 

@@ -1,5 +1,4 @@
 -- `test_support::unhex` meets its contract. Assumes nothing.
-use Prim.Native.Nat.{◌-◌}
 use Rattle.test_support.proofs.Writing.{unhexing-start, unhexing-more, unhexing-size, unhexing-all}
 use Rattle.test_support.proofs.unhex.Goals as goal
 
