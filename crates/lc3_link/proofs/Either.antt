@@ -58,6 +58,7 @@ link-accepted len x y l e = go (load word_room x) refl (load word_room y) refl e
 both-good : (a b : Object) → Good a → Good b → AllGood (a ∷ b ∷ [])
 both-good a b g h e (Memᴰ.head p) = rw p g
 both-good a b g h e (Memᴰ.tail (Memᴰ.head p)) = rw p h
+both-good a b g h e (Memᴰ.tail (Memᴰ.tail m)) = elim m [ ]
 
 abbrev pair : Object → Object → Way
 pair a b = node word_room (leaf a) (leaf b)
