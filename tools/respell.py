@@ -5,6 +5,7 @@ usage: tools/respell.py [FOLDER]
 
 Humps become underscores (`nextToken`, `next_token`), and so does the dash of a field or a constructor of specs/. A word of Rust, a
 type, a module and a string stay, and so does the dash of a law's name, which joins two names. A law that would have its function's name gets `_lem`.
+The choice `if b then x else y` of the rules becomes `when b then x else y`, since the library has an operator of the former name.
 Run once, after the kit's own script; a second run changes nothing.
 """
 
@@ -95,14 +96,42 @@ def respelled(text, words, humps, meeting):
     return TOKEN.sub(one, text)
 
 
-def main(root):
+def write(path, new, text):
+    if new != text:
+        with open(path, "w", encoding="utf-8") as f:
+            f.write(new)
+
+
+def respell_words(root):
     words, humps = dashed(root), humped(root)
+    if humps == BOUND:
+        return
     for path in files(root, (".antt", ".rt", ".edit")):
         text = read(path)
-        new = respelled(text, words, humps, meeting_in(text) if path.endswith(".antt") else ())
-        if new != text:
-            with open(path, "w", encoding="utf-8") as f:
-                f.write(new)
+        write(path, respelled(text, words, humps, meeting_in(text) if path.endswith(".antt") else ()), text)
+
+
+def choice(text):
+    """The choice of the rules, which the library has under the same name with another definition, is `when b then x else y`."""
+    parts = re.split(r"(--[^\n]*|\"(?:\\.|[^\"\\\n])*\")", text)
+    for i in range(0, len(parts), 2):
+        parts[i] = re.sub(r"(?<![^\s(){},;\[\]])if(?=[\s◌])(?!-)", "when", parts[i])
+    return "".join(parts)
+
+
+def respell_choice(root):
+    for path in files(root, (".antt", ".edit")):
+        text = read(path)
+        if path.endswith(".antt"):
+            write(path, choice(text), text)
+        elif re.search(r"(?m)^file: \S*\.antt$", text):
+            lines = text.split("\n")
+            write(path, "\n".join(choice(l) if l.startswith(("old:", "new:")) else l for l in lines), text)
+
+
+def main(root):
+    respell_words(root)
+    respell_choice(root)
     return 0
 
 

@@ -4,7 +4,7 @@ use mathlib.Core.Bool.{Bool, true, false}
 use mathlib.Core.List.{List}
 use Prim.Native.Nat.{ℕ, ◌≤◌, ◌<◌}
 use borrow.Author.Tests.{lt-leb}
-use Rattle.rules.specs.Base.{if◌then◌else◌, refuse2, span}
+use Rattle.rules.specs.Base.{when◌then◌else◌, refuse2, span}
 use Rattle.rules.specs.Passes.{assemble}
 use Rattle.rules.proofs.Bools.{never}
 use Rattle.base_refusals.specs.Refusals.{refusal_at}
@@ -25,11 +25,11 @@ started_none small room rs qs s n h = record {
 }
 
 calling-short : (small : Bool) (room : ℕ) (s : List ℕ) → small ≡ true → calling small room s ≡ refuse2 42 (span 0 0) (span 0 0)
-unfolding if◌then◌else◌
+unfolding when◌then◌else◌
 calling-short small room s e = rw e
 
 pub calling-long : (small : Bool) (room : ℕ) (s : List ℕ) → small ≡ false → calling small room s ≡ assemble room s
-unfolding if◌then◌else◌
+unfolding when◌then◌else◌
 calling-long small room s e = rw e
 
 -- 41

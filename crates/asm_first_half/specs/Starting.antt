@@ -1,6 +1,6 @@
 -- The call that assembles, up to pass two. Assumes nothing.
 use Rattle.std.specs.Prelude.{◌≡◌, Bool, false, List, ℕ, ◌≤◌}
-use Rattle.rules.specs.Base.{if◌then◌else◌, Outcome, refuse, nowhere}
+use Rattle.rules.specs.Base.{when◌then◌else◌, Outcome, refuse, nowhere}
 use Rattle.rules.specs.Objects.{Object}
 use Rattle.rules.specs.Passes.{assemble}
 use Rattle.base_refusals.specs.Refusals.{refused_by}
@@ -12,7 +12,7 @@ use Rattle.asm_first_half.specs.Tabled.{Begun}
 
 -- the call of buffers that are too small or not, with so many lent words
 abbrev pub calling : Bool → ℕ → List ℕ → Outcome Object
-calling small room s = if small then refuse 42 nowhere else assemble room s
+calling small room s = when small then refuse 42 nowhere else assemble room s
 
 -- the call up to pass two: a source whose tables pass one has left and whose words the lent ones hold, or the call's refusal
 pub record Started (small : Bool) (room : ℕ) (rs qs s : List ℕ) (r : Pass1Step) : Type 0 where

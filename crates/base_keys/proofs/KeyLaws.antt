@@ -9,7 +9,7 @@ use native.Mathlib.Omega.{arith}
 use lib.Dec.{eqb, ltb}
 use lib.ListN.{length, get_or}
 use borrow.Author.Tests.{ltb-true, ltb-false, lt-ltb, le-ltb}
-use Rattle.rules.specs.Base.{if◌then◌else◌}
+use Rattle.rules.specs.Base.{when◌then◌else◌}
 use Rattle.rules.specs.Tokens.{upper}
 use Rattle.rules.proofs.Bools.{never}
 use Rattle.base_text.specs.Names.{ordered}
@@ -22,11 +22,11 @@ use Rattle.base_keys.specs.Keys.{digit_of, shared, onward, weighed, key_of}
 -- DIGITS
 
 digit-in : (c : ℕ) → c < 96 → digit_of c ≡ c - 47
-unfolding digit_of if◌then◌else◌
+unfolding digit_of when◌then◌else◌
 digit-in c h = let l : c - 47 < 49 = omega arith in rw (lt-ltb (c - 47) 49 l)
 
 digit-high : (c : ℕ) → 96 ≤ c → digit_of c ≡ 49
-unfolding digit_of if◌then◌else◌
+unfolding digit_of when◌then◌else◌
 digit-high c h = let l : 49 ≤ c - 47 = omega arith in rw (le-ltb (c - 47) 49 l)
 
 digit_low : (c : ℕ) → digit_of c ≤ 49
@@ -92,11 +92,11 @@ inner d l e = (
 )
 
 onward-none : (d w : ℕ) → shared d ≡ true → onward d w ≡ 0
-unfolding onward if◌then◌else◌
+unfolding onward when◌then◌else◌
 onward-none d w e = rw e
 
 onward-next : (d w : ℕ) → shared d ≡ false → onward d w ≡ w / 64
-unfolding onward if◌then◌else◌
+unfolding onward when◌then◌else◌
 onward-next d w e = rw e
 
 onward-low : (d w : ℕ) → onward d w * 64 ≤ w
@@ -140,7 +140,7 @@ module _ (w x y : ℕ) (a b : List ℕ) (h : weighed w (x ∷ a) < weighed w (y 
   rest-less e = rw e (omega (arith, rw e at h))
 
 weighed-less : (w : ℕ) (a b : List ℕ) → weighed w a < weighed w b → ordered a b ≡ Less
-unfolding weighed ordered if◌then◌else◌
+unfolding weighed ordered when◌then◌else◌
 weighed-less w [] [] h = absurd (omega arith)
 weighed-less w [] (y ∷ b) h = refl
 weighed-less w (x ∷ a) [] h = absurd (omega arith)
@@ -162,13 +162,13 @@ weighed-less w (x ∷ a) (y ∷ b) h = go (ltb (digit_of x) (digit_of y)) refl (
 
 -- the other way round
 turned : (a b : List ℕ) → ordered a b ≡ Less → ordered b a ≡ Greater
-unfolding ordered if◌then◌else◌
+unfolding ordered when◌then◌else◌
 turned [] [] e = never cc
 turned [] (y ∷ b) e = refl
 turned (x ∷ a) [] e = never cc
 turned (x ∷ a) (y ∷ b) e = go (ltb x y) refl (ltb y x) refl e (turned a b)
   where
-    go : (s : Bool) → ltb x y ≡ s → (t : Bool) → ltb y x ≡ t → (if s then Less else if t then Greater else ordered a b) ≡ Less → (ordered a b ≡ Less → ordered b a ≡ Greater) → (if t then Less else if s then Greater else ordered b a) ≡ Greater
+    go : (s : Bool) → ltb x y ≡ s → (t : Bool) → ltb y x ≡ t → (when s then Less else when t then Greater else ordered a b) ≡ Less → (ordered a b ≡ Less → ordered b a ≡ Greater) → (when t then Less else when s then Greater else ordered b a) ≡ Greater
     go true p true q f ih = absurd (omega (arith, ltb-true x y p, ltb-true y x q))
     go true p false q f ih = refl
     go false p true q f ih = never cc

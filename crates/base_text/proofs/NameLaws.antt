@@ -7,7 +7,7 @@ use lib.Dec.{eqb}
 use native.Mathlib.Omega.{arith}
 use lib.ListN.{length, get_or}
 use borrow.Author.Tests.{lt-ltb, le-ltb, eq-eqb, ne_eqb}
-use Rattle.rules.specs.Base.{if◌then◌else◌, same}
+use Rattle.rules.specs.Base.{when◌then◌else◌, same}
 use Rattle.rules.specs.Tokens.{upper}
 use Rattle.base_text.specs.Runs.{from}
 use Rattle.base_text.specs.Names.{ordered}
@@ -28,15 +28,15 @@ module _ (f : ℕ → ℕ) (a b : List ℕ) (i : ℕ) where
     same_stop n = rw (from_step a i h, from_step b i k, ← p, ← q, ne_eqb x y n)
 
     pub order-less : x < y → ordered (map_from f a i) (map_from f b i) ≡ Less
-    unfolding ordered if◌then◌else◌
+    unfolding ordered when◌then◌else◌
     order-less l = rw (from_step a i h, from_step b i k, ← p, ← q, lt-ltb x y l)
 
     pub order-greater : y < x → y ≤ x → ordered (map_from f a i) (map_from f b i) ≡ Greater
-    unfolding ordered if◌then◌else◌
+    unfolding ordered when◌then◌else◌
     order-greater l m = rw (from_step a i h, from_step b i k, ← p, ← q, le-ltb x y m, lt-ltb y x l)
 
     pub order-go : x ≤ y → y ≤ x → ordered (map_from f a i) (map_from f b i) ≡ ordered (map_from f a (i + 1)) (map_from f b (i + 1))
-    unfolding ordered if◌then◌else◌
+    unfolding ordered when◌then◌else◌
     order-go l m = rw (from_step a i h, from_step b i k, ← p, ← q, le-ltb x y m, le-ltb y x l)
 
   pub same_end : length a ≤ i → length b ≤ i → same (map_from f a i) (map_from f b i) ≡ true

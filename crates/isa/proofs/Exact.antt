@@ -8,7 +8,7 @@ use lib.Dec.{eqb, leb}
 use lib.ListN.{get_or}
 use lib.Pow.{pow_pos}
 use borrow.Author.Tests.{lt-ltb, le-ltb, le-leb, eq-eqb, ne_eqb, leb-true, eqb-true, eqb-false}
-use Rattle.rules.specs.Base.{if◌then◌else◌}
+use Rattle.rules.specs.Base.{when◌then◌else◌}
 use Rattle.rules.specs.Words as R
 use Rattle.rules.specs.Words.{Instr, signed, unsigned, reg_or_imm, num, near, DR, SR, instructions, find, field, register, value, bits, ◌⊕◌, joined, made, word, cases, at9, at6, low, last, trap, equals, exactly, disassemble, line, Width}
 use Rattle.rules.proofs.Fields.{by-test, field-extend, extend_fits, fits-above}
@@ -28,17 +28,17 @@ use Rattle.isa.specs.declared.AsmInstr.TheVariants.{ADD, AND, LD, LDI, LDR, LEA,
 
 -- an instruction that encodes to another word is none
 refused : (k : ℕ) (i : Instr) (w v : ℕ) → 512 ≤ w → w / 4096 ≡ k → get_or (cases w) k none ≡ some i → word i ≡ some v → (v ≡ w → ⊥) → disassemble w ≡ none
-unfolding disassemble exactly equals if◌then◌else◌
+unfolding disassemble exactly equals when◌then◌else◌
 refused k i w v l p c e n = rw (le-ltb w 512 l, p, c, e, ne_eqb v w n)
 
 -- the low bits of a word, read and written back
 module _ (k : ℕ) (ok : Width k) (w : ℕ) where
   num-low : bits (num (signed k)) (value (low k w)) ≡ some (w % 2 ^ k)
-  unfolding bits if◌then◌else◌
+  unfolding bits when◌then◌else◌
   num-low = let l = mod-lt w (pow_pos k) in rw (extend_fits k ok (w % 2 ^ k) l, field-extend k ok (w % 2 ^ k) l)
 
   near-low : bits (near (signed k)) (value (low k w)) ≡ some (w % 2 ^ k)
-  unfolding bits if◌then◌else◌
+  unfolding bits when◌then◌else◌
   near-low = let l = mod-lt w (pow_pos k) in rw (extend_fits k ok (w % 2 ^ k) l, field-extend k ok (w % 2 ^ k) l)
 
 wide : (k : ℕ) → 1 ≤ k → k ≤ 16 → Width k
@@ -114,22 +114,22 @@ even w n = omega arith
 
 -- two registers and a register or an imm5
 last-imm : (w : ℕ) → w / 32 % 2 ≡ 1 → last w ≡ value (low 5 w)
-unfolding if◌then◌else◌
+unfolding when◌then◌else◌
 last-imm w e = rw (ne_eqb (w / 32 % 2) 0 (λ z. omega arith))
 
 last-reg : (w : ℕ) → w / 32 % 2 ≡ 0 → last w ≡ register (w % 8)
-unfolding if◌then◌else◌
+unfolding when◌then◌else◌
 last-reg w e = rw (eq-eqb (w / 32 % 2) 0 e)
 
 imm_low : (w : ℕ) → bits reg_or_imm (value (low 5 w)) ≡ some (32 + w % 32)
-unfolding bits if◌then◌else◌
+unfolding bits when◌then◌else◌
 imm_low w =
     let ok = wide 5 (omega arith) (omega arith) in
     let l : w % 32 < 32 = omega arith in
     rw (extend_fits 5 ok (w % 32) l, field-extend 5 ok (w % 32) l)
 
 reg-low : (w : ℕ) → bits reg_or_imm (register (w % 8)) ≡ some (w % 8)
-unfolding bits if◌then◌else◌
+unfolding bits when◌then◌else◌
 reg-low w = rw (le-leb (w % 8) 7 (eight w))
 
 imm-sum : (k w : ℕ) → w / 4096 ≡ k → w / 32 % 2 ≡ 1 → some (k * 4096) ⊕ bits DR (register (at9 w)) ⊕ bits SR (register (at6 w)) ⊕ bits reg_or_imm (value (low 5 w)) ≡ some w
@@ -172,7 +172,7 @@ module _
         sym (refused k _ w _ (omega arith) p (case-of w _ (last-reg w b)) (row (at9 w) (at6 w) (register (w % 8)) ∙ reg-sum k w) (λ e. z (no_middle w b (sum_back k w _ p e))))
 
     operand-shows : (w : ℕ) (o : ImmOrReg) → w / 4096 ≡ k → last_of w ≡ Operand o → some (meant (A (at9 w) (at6 w) o)) ≡ disassemble w
-    unfolding if◌then◌else◌
+    unfolding when◌then◌else◌
     operand-shows w o p q =
         by-test (eqb (w / 32 % 2) 1)
         (λ t.
@@ -190,7 +190,7 @@ module _
         never cc))
 
     operand-hides : (w : ℕ) → w / 4096 ≡ k → last_of w ≡ Malformed → none ≡ disassemble w
-    unfolding if◌then◌else◌
+    unfolding when◌then◌else◌
     operand-hides w p q =
         by-test (eqb (w / 32 % 2) 1)
         (λ t.
@@ -204,19 +204,19 @@ module _
         (λ u. reg-hides w p (even w (eqb-false _ _ t)) (eqb-false _ _ u)))
 
 pub add-shows : (w : ℕ) (x : Last) (o : ImmOrReg) → w / 4096 ≡ 1 → x ≡ last_of w → x ≡ Operand o → some (meant (ADD (at9 w) (at6 w) o)) ≡ disassemble w
-unfolding meant cases word made find instructions joined if◌then◌else◌
+unfolding meant cases word made find instructions joined when◌then◌else◌
 add-shows w x o p q r = operand-shows 1 ADD (omega arith) R.ADD (λ d s o. refl) (λ w. refl) (λ d s o. refl) w o p (sym q ∙ r)
 
 pub and-shows : (w : ℕ) (x : Last) (o : ImmOrReg) → w / 4096 ≡ 5 → x ≡ last_of w → x ≡ Operand o → some (meant (AND (at9 w) (at6 w) o)) ≡ disassemble w
-unfolding meant cases word made find instructions joined if◌then◌else◌
+unfolding meant cases word made find instructions joined when◌then◌else◌
 and-shows w x o p q r = operand-shows 5 AND (omega arith) R.AND (λ d s o. refl) (λ w. refl) (λ d s o. refl) w o p (sym q ∙ r)
 
 pub add-hides : (w : ℕ) (x : Last) → w / 4096 ≡ 1 → x ≡ last_of w → x ≡ Malformed → none ≡ disassemble w
-unfolding meant cases word made find instructions joined if◌then◌else◌
+unfolding meant cases word made find instructions joined when◌then◌else◌
 add-hides w x p q r = operand-hides 1 ADD (omega arith) R.ADD (λ d s o. refl) (λ w. refl) (λ d s o. refl) w p (sym q ∙ r)
 
 pub and-hides : (w : ℕ) (x : Last) → w / 4096 ≡ 5 → x ≡ last_of w → x ≡ Malformed → none ≡ disassemble w
-unfolding meant cases word made find instructions joined if◌then◌else◌
+unfolding meant cases word made find instructions joined when◌then◌else◌
 and-hides w x p q r = operand-hides 5 AND (omega arith) R.AND (λ d s o. refl) (λ w. refl) (λ d s o. refl) w p (sym q ∙ r)
 
 -- BR
@@ -231,7 +231,7 @@ branch-shows w r l p q =
 
 -- NOT
 not-word : (w : ℕ) → word (R.NOT (at9 w) (at6 w)) ≡ some (0x903f + at9 w * 512 + at6 w * 64)
-unfolding word made find instructions joined if◌then◌else◌ ◌⊕◌
+unfolding word made find instructions joined when◌then◌else◌ ◌⊕◌
 not-word w = rw (reg-bits 512 (at9 w) (eight (w / 512)), reg-bits 64 (at6 w) (eight (w / 64)))
 
 pub not-shows : (w : ℕ) → w / 4096 ≡ 9 → w % 64 ≡ 63 → some (meant (NOT (at9 w) (at6 w))) ≡ disassemble w
@@ -244,7 +244,7 @@ not-hides w p z = sym (refused 9 _ w _ (omega arith) p refl (not-word w) (λ e. 
 
 -- RTI
 rti-word : word R.RTI ≡ some 0x8000
-unfolding word made find instructions joined if◌then◌else◌
+unfolding word made find instructions joined when◌then◌else◌
 rti-word = refl
 
 pub rti-shows : (w : ℕ) → w ≡ 0x8000 → some (meant RTI) ≡ disassemble w
@@ -257,11 +257,11 @@ rti-hides w p n = sym (refused 8 _ w _ (omega arith) p refl rti-word (λ e. n (s
 
 -- JSR and JSRR
 jsr-sum : (w : ℕ) → w / 4096 ≡ 4 → w / 2048 % 2 ≡ 1 → word (R.JSR (low 11 w)) ≡ some w
-unfolding word made find instructions joined if◌then◌else◌ ◌⊕◌
+unfolding word made find instructions joined when◌then◌else◌ ◌⊕◌
 jsr-sum w p b = rw (near-low 11 (wide 11 (omega arith) (omega arith)) w) (ap some (omega arith))
 
 jsr-case : (w : ℕ) → w / 2048 % 2 ≡ 1 → get_or (cases w) 4 none ≡ some (R.JSR (low 11 w))
-unfolding cases if◌then◌else◌
+unfolding cases when◌then◌else◌
 jsr-case w b = rw (ne_eqb (w / 2048 % 2) 0 (λ z. omega arith))
 
 pub jsr-shows : (w r : ℕ) → w / 4096 ≡ 4 → w / 2048 % 2 ≡ 1 → r ≡ low 11 w → some (meant (JSR r)) ≡ disassemble w
@@ -269,11 +269,11 @@ unfolding meant
 jsr-shows w r p b q = rw q (sym (found 4 _ w (omega arith) p (jsr-case w b) (jsr-sum w p b)))
 
 jsrr-word : (w : ℕ) → word (R.JSRR (at6 w)) ≡ some (0x4000 + at6 w * 64)
-unfolding word made find instructions joined if◌then◌else◌ ◌⊕◌
+unfolding word made find instructions joined when◌then◌else◌ ◌⊕◌
 jsrr-word w = rw (reg-bits 64 (at6 w) (eight (w / 64)))
 
 jsrr-case : (w : ℕ) → (w / 2048 % 2 ≡ 1 → ⊥) → get_or (cases w) 4 none ≡ some (R.JSRR (at6 w))
-unfolding cases if◌then◌else◌
+unfolding cases when◌then◌else◌
 jsrr-case w b = rw (eq-eqb (w / 2048 % 2) 0 (omega arith))
 
 pub jsrr-shows : (w : ℕ) → w / 4096 ≡ 4 → (w / 2048 % 2 ≡ 1 → ⊥) → w / 512 % 4 ≡ 0 → w % 64 ≡ 0 → some (meant (JSRR (at6 w))) ≡ disassemble w
@@ -301,15 +301,15 @@ jsrr-low w p b n = jsrr-hides w p b (λ e. n (plain-low 4 (at6 w) w e))
 
 -- JMP and RET
 jmp-word : (w : ℕ) → word (R.JMP (at6 w)) ≡ some (0xc000 + at6 w * 64)
-unfolding word made find instructions joined if◌then◌else◌ ◌⊕◌
+unfolding word made find instructions joined when◌then◌else◌ ◌⊕◌
 jmp-word w = rw (reg-bits 64 (at6 w) (eight (w / 64)))
 
 jmp-case : (w : ℕ) → (w ≡ 0xc1c0 → ⊥) → get_or (cases w) 12 none ≡ some (R.JMP (at6 w))
-unfolding cases if◌then◌else◌
+unfolding cases when◌then◌else◌
 jmp-case w n = rw (ne_eqb w 0xc1c0 n)
 
 pub ret-shows : (w : ℕ) → w / 4096 ≡ 12 → w / 512 % 8 ≡ 0 → w % 64 ≡ 0 → at6 w ≡ 7 → some (meant RET) ≡ disassemble w
-unfolding meant word made find instructions joined disassemble exactly equals cases if◌then◌else◌
+unfolding meant word made find instructions joined disassemble exactly equals cases when◌then◌else◌
 ret-shows w p h z r = let e : w ≡ 0xc1c0 = digits 12 w p ∙ (omega arith) in ap (λ (x : ℕ). disassemble x) (sym e)
 
 pub jmp-shows : (w : ℕ) → w / 4096 ≡ 12 → w / 512 % 8 ≡ 0 → w % 64 ≡ 0 → (at6 w ≡ 7 → ⊥) → some (meant (JMP (at6 w))) ≡ disassemble w
@@ -329,7 +329,7 @@ jmp-low w p n = jmp-hides w p (λ e. n (plain-low 12 (at6 w) w e))
 
 -- traps
 trap-word : (v : ℕ) → v ≤ 255 → word (R.TRAP v) ≡ some (0xf000 + v)
-unfolding word made find instructions joined bits field if◌then◌else◌ ◌⊕◌
+unfolding word made find instructions joined bits field when◌then◌else◌ ◌⊕◌
 trap-word v l = rw (fits-above (unsigned 8) v l, mod-eq_of_lt {n = v} {m = 256} (omega arith))
 
 pub up : {k x : ℕ} → k ≤ x → (x ≡ k → ⊥) → suc k ≤ x
@@ -339,7 +339,7 @@ past : (v : ℕ) → 38 ≤ v → v - 32 ≡ suc (suc (suc (suc (suc (suc (v - 3
 past v l = omega arith
 
 pub trap-plain : (v : ℕ) → (v ≡ 32 → ⊥) → (v ≡ 33 → ⊥) → (v ≡ 34 → ⊥) → (v ≡ 35 → ⊥) → (v ≡ 36 → ⊥) → (v ≡ 37 → ⊥) → trap v ≡ R.TRAP v
-unfolding if◌then◌else◌
+unfolding when◌then◌else◌
 trap-plain v a b c d e f =
     by-test (leb 32 v)
     (λ t. rw (t, past v (up (up (up (up (up (up (leb-true 32 v t) a) b) c) d) e) f)))
@@ -350,32 +350,32 @@ named-shows w v i p q h = let e : 0xf000 + v ≡ w = omega arith in h ∙ ap dis
 
 module _ (w : ℕ) (p : w / 256 ≡ 240) where
   pub getc-shows : w % 256 ≡ 32 → some (meant GETC) ≡ disassemble w
-  unfolding meant word made find instructions joined disassemble exactly equals cases if◌then◌else◌
+  unfolding meant word made find instructions joined disassemble exactly equals cases when◌then◌else◌
   getc-shows q = named-shows w 32 R.GETC p q refl
 
   pub putc-shows : w % 256 ≡ 33 → some (meant PUTC) ≡ disassemble w
-  unfolding meant word made find instructions joined disassemble exactly equals cases if◌then◌else◌
+  unfolding meant word made find instructions joined disassemble exactly equals cases when◌then◌else◌
   putc-shows q = named-shows w 33 R.PUTC p q refl
 
   pub puts-shows : w % 256 ≡ 34 → some (meant PUTS) ≡ disassemble w
-  unfolding meant word made find instructions joined disassemble exactly equals cases if◌then◌else◌
+  unfolding meant word made find instructions joined disassemble exactly equals cases when◌then◌else◌
   puts-shows q = named-shows w 34 R.PUTS p q refl
 
   pub in-shows : w % 256 ≡ 35 → some (meant IN) ≡ disassemble w
-  unfolding meant word made find instructions joined disassemble exactly equals cases if◌then◌else◌
+  unfolding meant word made find instructions joined disassemble exactly equals cases when◌then◌else◌
   in-shows q = named-shows w 35 R.IN p q refl
 
   pub putsp-shows : w % 256 ≡ 36 → some (meant PUTSP) ≡ disassemble w
-  unfolding meant word made find instructions joined disassemble exactly equals cases if◌then◌else◌
+  unfolding meant word made find instructions joined disassemble exactly equals cases when◌then◌else◌
   putsp-shows q = named-shows w 36 R.PUTSP p q refl
 
   pub halt-shows : w % 256 ≡ 37 → some (meant HALT) ≡ disassemble w
-  unfolding meant word made find instructions joined disassemble exactly equals cases if◌then◌else◌
+  unfolding meant word made find instructions joined disassemble exactly equals cases when◌then◌else◌
   halt-shows q = named-shows w 37 R.HALT p q refl
 
 -- every trap's word, by its name where it has one
 trap-named : (k v : ℕ) → v ≡ 32 + k → v ≤ 255 → word (trap v) ≡ some (0xf000 + v)
-unfolding word made find instructions joined if◌then◌else◌
+unfolding word made find instructions joined when◌then◌else◌
 trap-named zero v e l = let h : v ≡ 32 = omega arith in rw h
 trap-named (suc zero) v e l = let h : v ≡ 33 = omega arith in rw h
 trap-named (suc (suc zero)) v e l = let h : v ≡ 34 = omega arith in rw h
@@ -385,7 +385,7 @@ trap-named (suc (suc (suc (suc (suc zero))))) v e l = let h : v ≡ 37 = omega a
 trap-named (suc (suc (suc (suc (suc (suc k)))))) v e l = ap word (trap-plain v (λ h. omega arith) (λ h. omega arith) (λ h. omega arith) (λ h. omega arith) (λ h. omega arith) (λ h. omega arith)) ∙ trap-word v l
 
 trap-any : (v : ℕ) → v ≤ 255 → word (trap v) ≡ some (0xf000 + v)
-unfolding if◌then◌else◌
+unfolding when◌then◌else◌
 trap-any v l =
     by-test (leb 32 v)
     (λ t. let h = leb-true 32 v t in trap-named (v - 32) v (omega arith) l)
@@ -407,62 +407,62 @@ trap-hides w p n = sym (refused 15 _ w _ (omega arith) p (trap-case w) (trap-any
 
 -- what is no instruction at all
 pub fill-D : (w : ℕ) → w / 4096 ≡ 13 → none ≡ disassemble w
-unfolding disassemble exactly cases if◌then◌else◌
+unfolding disassemble exactly cases when◌then◌else◌
 fill-D w p = let l : 512 ≤ w = omega arith in rw (le-ltb w 512 l, p)
 
 pub fill-low : (w : ℕ) → w < 512 → none ≡ disassemble w
-unfolding disassemble if◌then◌else◌
+unfolding disassemble when◌then◌else◌
 fill-low w l = rw (lt-ltb w 512 l)
 
 -- a field read by the half of its numbers
 pub half-low : (h b : ℕ) → b < h → b ≡ extended h b
-unfolding if◌then◌else◌
+unfolding when◌then◌else◌
 half-low h b l = rw (lt-ltb b h l)
 
 pub half_high : (h b : ℕ) → 0 < h → h ≤ 32768 → h ≤ b → b + (65535 - (h - 1) - h) ≡ extended h b
-unfolding if◌then◌else◌
+unfolding when◌then◌else◌
 half_high h b p m l = rw (le-ltb b h l) (omega arith)
 
 -- the last operand of ADD and AND
 pub last-value : (w r : ℕ) → w / 32 % 2 ≡ 1 → r ≡ low 5 w → Operand (Imm r) ≡ last_of w
-unfolding if◌then◌else◌
+unfolding when◌then◌else◌
 last-value w r b q = rw (q, eq-eqb (w / 32 % 2) 1 b)
 
 pub last-register : (w : ℕ) → (w / 32 % 2 ≡ 1 → ⊥) → w / 8 % 4 ≡ 0 → Operand (Reg (w % 8)) ≡ last_of w
-unfolding if◌then◌else◌
+unfolding when◌then◌else◌
 last-register w b z = rw (ne_eqb (w / 32 % 2) 1 b, eq-eqb (w / 8 % 4) 0 z)
 
 pub last-malformed : (w : ℕ) → (w / 32 % 2 ≡ 1 → ⊥) → (w / 8 % 4 ≡ 0 → ⊥) → Malformed ≡ last_of w
-unfolding if◌then◌else◌
+unfolding when◌then◌else◌
 last-malformed w b z = rw (ne_eqb (w / 32 % 2) 1 b, ne_eqb (w / 8 % 4) 0 z)
 
 -- the instructions of one shape
 pub ld-shows : (w r : ℕ) → w / 4096 ≡ 2 → r ≡ low 9 w → some (meant (LD (at9 w) r)) ≡ disassemble w
-unfolding meant cases word made find instructions joined if◌then◌else◌
+unfolding meant cases word made find instructions joined when◌then◌else◌
 ld-shows = nine-shows 2 LD (omega arith) (λ w. refl) (λ d o. refl)
 
 pub st-shows : (w r : ℕ) → w / 4096 ≡ 3 → r ≡ low 9 w → some (meant (ST (at9 w) r)) ≡ disassemble w
-unfolding meant cases word made find instructions joined if◌then◌else◌
+unfolding meant cases word made find instructions joined when◌then◌else◌
 st-shows = nine-shows 3 ST (omega arith) (λ w. refl) (λ d o. refl)
 
 pub ldi-shows : (w r : ℕ) → w / 4096 ≡ 10 → r ≡ low 9 w → some (meant (LDI (at9 w) r)) ≡ disassemble w
-unfolding meant cases word made find instructions joined if◌then◌else◌
+unfolding meant cases word made find instructions joined when◌then◌else◌
 ldi-shows = nine-shows 10 LDI (omega arith) (λ w. refl) (λ d o. refl)
 
 pub sti-shows : (w r : ℕ) → w / 4096 ≡ 11 → r ≡ low 9 w → some (meant (STI (at9 w) r)) ≡ disassemble w
-unfolding meant cases word made find instructions joined if◌then◌else◌
+unfolding meant cases word made find instructions joined when◌then◌else◌
 sti-shows = nine-shows 11 STI (omega arith) (λ w. refl) (λ d o. refl)
 
 pub lea-shows : (w r : ℕ) → w / 4096 ≡ 14 → r ≡ low 9 w → some (meant (LEA (at9 w) r)) ≡ disassemble w
-unfolding meant cases word made find instructions joined if◌then◌else◌
+unfolding meant cases word made find instructions joined when◌then◌else◌
 lea-shows = nine-shows 14 LEA (omega arith) (λ w. refl) (λ d o. refl)
 
 pub ldr-shows : (w r : ℕ) → w / 4096 ≡ 6 → r ≡ low 6 w → some (meant (LDR (at9 w) (at6 w) r)) ≡ disassemble w
-unfolding meant cases word made find instructions joined if◌then◌else◌
+unfolding meant cases word made find instructions joined when◌then◌else◌
 ldr-shows = six-shows 6 LDR (omega arith) (λ w. refl) (λ d b o. refl)
 
 pub str-shows : (w r : ℕ) → w / 4096 ≡ 7 → r ≡ low 6 w → some (meant (STR (at9 w) (at6 w) r)) ≡ disassemble w
-unfolding meant cases word made find instructions joined if◌then◌else◌
+unfolding meant cases word made find instructions joined when◌then◌else◌
 str-shows = six-shows 7 STR (omega arith) (λ w. refl) (λ d b o. refl)
 
 -- a line: the instruction, or a fill

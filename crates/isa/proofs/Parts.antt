@@ -6,7 +6,7 @@ use mathlib.Core.Option.{Option, none, some}
 use mathlib.Core.Path.{◌≡◌, refl, ap, sym, ◌∙◌}
 use lib.Dec.{leb}
 use borrow.Author.Tests.{le-leb, lt-leb, leb-true}
-use Rattle.rules.specs.Base.{if◌then◌else◌}
+use Rattle.rules.specs.Base.{when◌then◌else◌}
 use Rattle.rules.specs.Words as W
 use Rattle.rules.specs.Words.{Range, range, signed, unsigned, reg, DR, SR, reg_or_imm, num, fits, field, register, value, bits, ◌⊕◌, instructions, find, branch, joined, made, word}
 use Rattle.rules.proofs.Fields.{by-test, fits-above, fits_not}
@@ -22,7 +22,7 @@ use Rattle.isa.specs.declared.ImmOrReg.TheVariants.{Imm, Reg}
 
 -- a field's bits are below its modulus
 pub below : (r : Range) (d : ℕ) → 0 < r.modulus → size (encoded (bits (num r) (value d))) < r.modulus
-unfolding bits field if◌then◌else◌
+unfolding bits field when◌then◌else◌
 below r d p = by-test (fits r d) (λ t. rw t (mod-lt d p)) (λ t. rw t p)
 
 pub imm-small : (e : Encoded) (d b : ℕ) → e ≡ encoded (bits (num (range 16 15 32)) (value d)) → e ≡ Bits b → b < 32
@@ -30,7 +30,7 @@ imm-small e d b p q = let h : size (Bits b) ≡ size (encoded (bits (num (range 
 
 -- the last operand of ADD and AND
 imm-bits : (d : ℕ) (x : Option ℕ) → bits (num (range 16 15 32)) (value d) ≡ x → bits reg_or_imm (value d) ≡ some 32 ⊕ x
-unfolding bits if◌then◌else◌ ◌⊕◌
+unfolding bits when◌then◌else◌ ◌⊕◌
 imm-bits d x e = by-test (fits (signed 5) d) (λ t. rw (← e, t)) (λ t. rw (← e, t))
 
 pub imm-in : (o : ImmOrReg) (e : Encoded) (d b : ℕ) → o ≡ Imm d → e ≡ encoded (bits (num (range 16 15 32)) (value d)) → e ≡ Bits b → Bits (32 + b) ≡ encoded (bits reg_or_imm (operand_of o))
@@ -48,20 +48,20 @@ imm-out o e d p q r = within (bits (num (range 16 15 32)) (value d)) refl (sym r
   within (some n) y z = never cc
 
 pub reg_in : (o : ImmOrReg) (r : ℕ) → o ≡ Reg r → r ≤ 7 → Bits r ≡ encoded (bits reg_or_imm (operand_of o))
-unfolding bits if◌then◌else◌
+unfolding bits when◌then◌else◌
 reg_in o r p l = rw (p, le-leb r 7 l)
 
 pub reg-out : (o : ImmOrReg) (r : ℕ) → o ≡ Reg r → 7 < r → Outside ≡ encoded (bits reg_or_imm (operand_of o))
-unfolding bits if◌then◌else◌
+unfolding bits when◌then◌else◌
 reg-out o r p l = rw (p, lt-leb r 7 l)
 
 -- a word with two registers and the low bits
 pub reg-bits : (m r : ℕ) → r ≤ 7 → bits (reg m) (register r) ≡ some (r * m)
-unfolding bits if◌then◌else◌
+unfolding bits when◌then◌else◌
 reg-bits m r l = rw (le-leb r 7 l)
 
 reg-none : (m r : ℕ) → 7 < r → bits (reg m) (register r) ≡ none
-unfolding bits if◌then◌else◌
+unfolding bits when◌then◌else◌
 reg-none m r l = rw (lt-leb r 7 l)
 
 none_right : (x : Option ℕ) → x ⊕ none ≡ none
@@ -95,7 +95,7 @@ pub small : (l h m : ℕ) (e : Encoded) (d : ℕ) → 0 < m → e ≡ encoded (b
 small l h m e d p q = omega (arith, ap size q, below (range l h m) d p)
 
 of-last : (e : Encoded) (o : ImmOrReg) → e ≡ encoded (bits reg_or_imm (operand_of o)) → size e < 64
-unfolding bits field if◌then◌else◌
+unfolding bits field when◌then◌else◌
 of-last e (Imm d) q =
     by-test (fits (signed 5) d)
     (λ t. let h : size e ≡ 32 + d % 32 = ap size q ∙ rw t in omega (arith, mod-lt d {m = 32} (omega arith)))
@@ -110,11 +110,11 @@ small-last K i e d s o p q = of-last e o q
 
 -- a trap
 pub trap-in : (v : ℕ) → v ≤ 255 → Bits (0xf000 + v) ≡ encoded (some 0xf000 ⊕ bits (num (unsigned 8)) (value v))
-unfolding bits field if◌then◌else◌ ◌⊕◌
+unfolding bits field when◌then◌else◌ ◌⊕◌
 trap-in v l = rw (fits-above (unsigned 8) v l, mod-eq_of_lt {n = v} {m = 256} (omega arith))
 
 pub trap-out : (v : ℕ) → v < 65536 → 255 < v → Outside ≡ encoded (some 0xf000 ⊕ bits (num (unsigned 8)) (value v))
-unfolding bits if◌then◌else◌ ◌⊕◌
+unfolding bits when◌then◌else◌ ◌⊕◌
 trap-out v f l = rw (fits_not (unsigned 8) v l f)
 
 -- by shape: a word as the code joins it, and as the rule does
@@ -124,11 +124,11 @@ zero_right none = refl
 zero_right (some a) = ap some (add-zero a)
 
 no_second : bits SR (register 0) ≡ some 0
-unfolding bits if◌then◌else◌
+unfolding bits when◌then◌else◌
 no_second = refl
 
 no-first : bits DR (register 0) ≡ some 0
-unfolding bits if◌then◌else◌
+unfolding bits when◌then◌else◌
 no-first = refl
 
 pub one_reg : (w d : ℕ) (n : Option ℕ) → some w ⊕ bits DR (register d) ⊕ bits SR (register 0) ⊕ n ≡ some w ⊕ bits DR (register d) ⊕ n
@@ -150,7 +150,7 @@ pub negated : (d s : ℕ) → some 0x9000 ⊕ bits DR (register d) ⊕ bits SR (
 negated d s = later 0x9000 63 (bits DR (register d)) (bits SR (register s))
 
 pub branched : (c o : ℕ) → some 0 ⊕ bits DR (register c) ⊕ bits SR (register 0) ⊕ bits (num (signed 9)) (value o) ≡ word (W.BR c o)
-unfolding word made find instructions branch joined bits if◌then◌else◌ ◌⊕◌
+unfolding word made find instructions branch joined bits when◌then◌else◌ ◌⊕◌
 branched zero o = refl
 branched (suc zero) o = refl
 branched (suc (suc zero)) o = refl
@@ -206,11 +206,11 @@ module _ (w : ℕ) (i : AsmInstr) (r low : Encoded) where
 
 pub arm-not :
     (i : AsmInstr) (r : Encoded) (d s : ℕ) → i ≡ NOT d s → r ≡ encoded (some 0x9000 ⊕ bits DR (register d) ⊕ bits SR (register s) ⊕ some 63) → r ≡ encoded (word (meant i))
-unfolding word made find instructions joined meant if◌then◌else◌
+unfolding word made find instructions joined meant when◌then◌else◌
 arm-not i r d s p e = arm i (NOT d s) r (Bits 63) 0x9000 d s _ p refl e (negated d s)
 
 pub arm-trap : (i : AsmInstr) (r : Encoded) (v : ℕ) → i ≡ TRAP v → r ≡ encoded (some 0xf000 ⊕ bits (num (unsigned 8)) (value v)) → r ≡ encoded (word (meant i))
-unfolding word made find instructions joined meant if◌then◌else◌
+unfolding word made find instructions joined meant when◌then◌else◌
 arm-trap i r v p e = e ∙ ap (λ (k : AsmInstr). encoded (word (meant k))) (sym p)
 
 pub fixed : (i j : AsmInstr) (b : ℕ) → i ≡ j → word (meant j) ≡ some b → Bits b ≡ encoded (word (meant i))

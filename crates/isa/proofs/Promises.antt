@@ -3,7 +3,7 @@
 use Prim.Native.Nat.{ℕ}
 use mathlib.Core.Option.{Option, none, some}
 use mathlib.Core.Path.{◌≡◌, refl, ap, sym, subst, ◌∙◌}
-use Rattle.rules.specs.Base.{if◌then◌else◌}
+use Rattle.rules.specs.Base.{when◌then◌else◌}
 use Rattle.rules.specs.Words as R
 use Rattle.rules.specs.Words.{Instr, word, disassemble, line, Shown}
 use Rattle.rules.proofs.Disassembly.{disassembled-encodes, encoded-shows}

@@ -1,7 +1,7 @@
 -- What the answers of disassembly mean, in the terms of `rules`. Assumes nothing.
 use Rattle.std.specs.Prelude.{ℕ, ◌+◌, ◌-◌, ◌/◌, ◌%◌, eqb, ltb}
 use Rattle.std.proofs.Math.Option.{Option, none, some}
-use Rattle.rules.specs.Base.{if◌then◌else◌}
+use Rattle.rules.specs.Base.{when◌then◌else◌}
 use Rattle.rules.specs.Words.{Instr, low}
 use Rattle.rules.specs.Words as R
 use Rattle.isa.specs.Instructions.{meant}
@@ -25,11 +25,11 @@ meant_line (LV.Fill w) = R.filled w
 
 -- the bits of a signed field, by the half of its numbers
 abbrev pub extended : ℕ → ℕ → ℕ
-extended half b = if ltb b half then b else b + (65536 - (half + half))
+extended half b = when ltb b half then b else b + (65536 - (half + half))
 
 -- bits 0 to 5 of ADD and AND
 abbrev pub last_of : ℕ → Last
 last_of w =
-    if eqb (w / 32 % 2) 1 then Operand (Imm (low 5 w))
-    else if eqb (w / 8 % 4) 0 then Operand (Reg (w % 8))
+    when eqb (w / 32 % 2) 1 then Operand (Imm (low 5 w))
+    else when eqb (w / 8 % 4) 0 then Operand (Reg (w % 8))
     else Malformed

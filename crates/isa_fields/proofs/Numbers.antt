@@ -1,7 +1,7 @@
 -- Numbers of sixteen bits in a field, and a label's offset as sixteen bits: each test of the code and the rule's. Assumes nothing.
 use Rattle.std.proofs.Common.{◌≡◌, ℕ, ◌+◌, ◌-◌, ◌%◌, ◌^◌, ◌<◌, ◌≤◌, true, cond, ltb, ℤ, pos, negsuc, ◌-ℤ◌, sym, ap, ◌∙◌, subst, mod-lt, arith, pow_pos, w32, SFits, to_z, of_z, ltb-false, ltb-true, le-ltb, lt-ltb}
 use mir.ValLaws.{to_z_pos, to_z-of_z}
-use Rattle.rules.specs.Base.{if◌then◌else◌, Outcome, ok, refuse, nowhere}
+use Rattle.rules.specs.Base.{when◌then◌else◌, Outcome, ok, refuse, nowhere}
 use Rattle.rules.specs.Words.{range, signed, fits, field, offset, reach, bits, num, value, Width}
 use Rattle.rules.proofs.Fields.{by-test, halves, room, fits-above, fits_below, fits_not}
 use Rattle.isa_fields.specs.Fields.{encoded, meant_offset, signed16, tested}
@@ -11,7 +11,7 @@ use Rattle.isa_fields.specs.declared.Replaced.TheVariants.{Offset, OffsetNewErr}
 -- a number of sixteen bits
 module _ (d l h m : ℕ) where
   taken : fits (range l h m) d ≡ true → Bits (d % m) ≡ encoded (bits (num (range l h m)) (value d))
-  unfolding bits field if◌then◌else◌
+  unfolding bits field when◌then◌else◌
   taken e = rw e
 
   pub value-up : d ≤ h → Bits (d % m) ≡ encoded (bits (num (range l h m)) (value d))
@@ -21,7 +21,7 @@ module _ (d l h m : ℕ) where
   value-down f i = let k : 65536 - l ≤ d = omega arith in taken (fits_below (range l h m) d k f)
 
   pub value_out : d < 65536 → h < d → l ≤ 65535 - d → Outside ≡ encoded (bits (num (range l h m)) (value d))
-  unfolding bits if◌then◌else◌
+  unfolding bits when◌then◌else◌
   value_out f i j = let k : d < 65536 - l = omega arith in rw (fits_not (range l h m) d i k)
 
 -- the difference that wraps
@@ -59,10 +59,10 @@ module _ (w : ℕ) (wide : Width w) where
   low-down d l = rw (le-ltb d 32768 l)
 
   ruled : ℕ → Outcome ℕ
-  ruled d = if fits (signed w) d then ok d else refuse 29 nowhere
+  ruled d = when fits (signed w) d then ok d else refuse 29 nowhere
 
   same_test : (d : ℕ) → d < 65536 → meant_offset (tested (negsuc (2 ^ (w - 1) - 1)) (pos (2 ^ (w - 1) - 1)) d) ≡ ruled d
-  unfolding if◌then◌else◌ ruled
+  unfolding when◌then◌else◌ ruled
   same_test d f =
       by-test (ltb d 32768)
       (λ t. let l = ltb-true _ _ t in

@@ -1,6 +1,6 @@
 -- What the contracts of this crate give: 29 exactly outside the field, and two answers that a contract allows are equal. Assumes nothing.
 use Rattle.std.proofs.Common.{◌≡◌, ℕ, true, false, sym, refl, ◌∙◌}
-use Rattle.rules.specs.Base.{if◌then◌else◌, nowhere}
+use Rattle.rules.specs.Base.{when◌then◌else◌, nowhere}
 use Rattle.rules.specs.Words as R
 use Rattle.rules.specs.Words.{Range, fits, offset, reach}
 use Rattle.rules.proofs.Bools.{never}
@@ -18,11 +18,11 @@ offset-once OffsetNewErr OffsetNewErr e = refl
 
 -- `replace_pc_offset9`, `replace_pc_offset11`: 29 exactly where the offset lies outside the field, and else the offset itself
 pub refused-outside : (f : Range) (label pc : ℕ) (r : Replaced) → meant_offset r ≡ reach f label pc nowhere → fits f (offset label pc) ≡ false → r ≡ OffsetNewErr
-unfolding reach if◌then◌else◌
+unfolding reach when◌then◌else◌
 refused-outside f label pc r e o = offset-once r OffsetNewErr (e ∙ rw o)
 
 pub accepted-inside : (f : Range) (label pc : ℕ) (r : Replaced) → meant_offset r ≡ reach f label pc nowhere → fits f (offset label pc) ≡ true → r ≡ Offset (offset label pc)
-unfolding reach if◌then◌else◌
+unfolding reach when◌then◌else◌
 accepted-inside f label pc r e o = offset-once r (Offset (offset label pc)) (e ∙ rw o)
 
 -- two answers that a contract allows are equal: `replace_pc_offset9`, `replace_pc_offset11`; `low5` to `low11`

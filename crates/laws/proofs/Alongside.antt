@@ -9,7 +9,7 @@ use native.Mathlib.Omega.{arith}
 use lib.Dec.{eqb, leb, ltb}
 use lib.ListN.{length, replicate, length-append, length-replicate, length-map}
 use borrow.Author.Tests.{eqb-true, eqb-false, ltb-true, ltb-false}
-use Rattle.rules.specs.Base.{if◌then◌else◌, Outcome, ok, refuse, refuse2, ◌>>=◌, Span}
+use Rattle.rules.specs.Base.{when◌then◌else◌, Outcome, ok, refuse, refuse2, ◌>>=◌, Span}
 use Rattle.rules.specs.Capacities.{block_room}
 use Rattle.rules.specs.Words.{Op, instr, orig, fill, blkw, stringz, end, external}
 use Rattle.rules.specs.Statements.{Stmt, Target}
@@ -92,10 +92,10 @@ Any P [] = ⊥
 Any P (x ∷ xs) = P x ⊎ Any P xs
 
 never-overlaps : (p q : Span) (ys : List ObjBlock) → overlapping p q ≡ ok ys → ⊥
-unfolding overlapping if◌then◌else◌
+unfolding overlapping when◌then◌else◌
 never-overlaps p q ys e = go (leb p.start q.start) e
   where
-    go : (b : Bool) → ◌≡◌ {A = Outcome (List ObjBlock)} (if b then refuse2 28 p q else refuse2 28 q p) (ok ys) → ⊥
+    go : (b : Bool) → ◌≡◌ {A = Outcome (List ObjBlock)} (when b then refuse2 28 p q else refuse2 28 q p) (ok ys) → ⊥
     go true x = never cc
     go false x = never cc
 
@@ -152,11 +152,11 @@ module _ (x y : ObjBlock) (xs : List ObjBlock) (c : ranges_overlap x.start (leng
       go (inr l) f = absurd (h (omega (arith, l, f)))
 
 pub place-puts : (x : ObjBlock) (xs ys : List ObjBlock) → place x xs ≡ ok ys → Put x xs ys
-unfolding place if◌then◌else◌
+unfolding place when◌then◌else◌
 place-puts x [] ys e = let q : x ∷ [] ≡ ys = cc in rw (← q) (put_first x)
 place-puts x (y ∷ xs) ys e = by-overlap (place-puts x xs) (ranges_overlap x.start (length x.words) y.start (length y.words)) refl e
   where
-    by-start : ((zs : List ObjBlock) → place x xs ≡ ok zs → Put x xs zs) → ranges_overlap x.start (length x.words) y.start (length y.words) ≡ false → (b : Bool) → ltb x.start y.start ≡ b → (if b then ok (x ∷ y ∷ xs) else (place x xs >>= λ zs. ok (y ∷ zs))) ≡ ok ys → Put x (y ∷ xs) ys
+    by-start : ((zs : List ObjBlock) → place x xs ≡ ok zs → Put x xs zs) → ranges_overlap x.start (length x.words) y.start (length y.words) ≡ false → (b : Bool) → ltb x.start y.start ≡ b → (when b then ok (x ∷ y ∷ xs) else (place x xs >>= λ zs. ok (y ∷ zs))) ≡ ok ys → Put x (y ∷ xs) ys
     by-start ih c true h e = let q : x ∷ y ∷ xs ≡ ys = cc in rw (← q) (put-before x y xs c (ltb-true x.start y.start h))
     by-start ih c false h e =
         let u = gave (place x xs) _ ys e in
@@ -164,7 +164,7 @@ place-puts x (y ∷ xs) ys e = by-overlap (place-puts x xs) (ranges_overlap x.st
         let l = ltb-false x.start y.start h in
         rw (← q) (put-behind x y xs c (λ z. omega (arith, l, z)) u.given' (ih u.given' u.first))
 
-    by-overlap : ((zs : List ObjBlock) → place x xs ≡ ok zs → Put x xs zs) → (b : Bool) → ranges_overlap x.start (length x.words) y.start (length y.words) ≡ b → (if b then overlapping x.place y.place else (if ltb x.start y.start then ok (x ∷ y ∷ xs) else (place x xs >>= λ zs. ok (y ∷ zs)))) ≡ ok ys → Put x (y ∷ xs) ys
+    by-overlap : ((zs : List ObjBlock) → place x xs ≡ ok zs → Put x xs zs) → (b : Bool) → ranges_overlap x.start (length x.words) y.start (length y.words) ≡ b → (when b then overlapping x.place y.place else (when ltb x.start y.start then ok (x ∷ y ∷ xs) else (place x xs >>= λ zs. ok (y ∷ zs)))) ≡ ok ys → Put x (y ∷ xs) ys
     by-overlap ih true c e = absurd (never-overlaps x.place y.place ys e)
     by-overlap ih false c e = by-start ih c (ltb x.start y.start) refl e
 
@@ -266,16 +266,16 @@ module _ (s : Stmt) (o c : Pass1State) (t u : Pass2State) (a : Alongside o t) wh
             }
 
   end-along : Ends o c → finish t ≡ ok u → Alongside c u
-  unfolding finish if◌then◌else◌
+  unfolding finish when◌then◌else◌
   end-along g e = by-block t.current refl e
     where
-      by_size : (x : ObjBlock) → t.current ≡ some x → (b : Bool) → eqb (length x.words) 0 ≡ b → (if b then ok (pass2_state none t.blocks) else (place x t.blocks >>= λ bs. ok (pass2_state none bs))) ≡ ok u → Alongside c u
+      by_size : (x : ObjBlock) → t.current ≡ some x → (b : Bool) → eqb (length x.words) 0 ≡ b → (when b then ok (pass2_state none t.blocks) else (place x t.blocks >>= λ bs. ok (pass2_state none bs))) ≡ ok u → Alongside c u
       by_size x q true h e = end_empty x q g (eqb-true (length x.words) 0 h) e
       by_size x q false h e = end-full x q g (eqb-false (length x.words) 0 h) e
 
       by-block : (x : Option ObjBlock) → t.current ≡ x → ◌≡◌ {A = Outcome Pass2State} (elim x [
         | none ↦ ok t
-        | some x ↦ if eqb (length x.words) 0 then ok (pass2_state none t.blocks) else (place x t.blocks >>= λ bs. ok (pass2_state none bs))
+        | some x ↦ when eqb (length x.words) 0 then ok (pass2_state none t.blocks) else (place x t.blocks >>= λ bs. ok (pass2_state none bs))
       ]) (ok u) → Alongside c u
       by-block none q e = absurd (rw (g.before, q) at a.level)
       by-block (some x) q e = by_size x q (eqb (length x.words) 0) refl e

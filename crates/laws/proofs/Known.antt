@@ -8,7 +8,7 @@ use native.Mathlib.Omega.{arith}
 use lib.Dec.{eqb, leb, ltb}
 use lib.ListN.{length}
 use borrow.Author.Tests.{ltb-true}
-use Rattle.rules.specs.Base.{if◌then◌else◌, Outcome, ok, refuse, refuse2, ◌>>=◌, Span, has}
+use Rattle.rules.specs.Base.{when◌then◌else◌, Outcome, ok, refuse, refuse2, ◌>>=◌, Span, has}
 use Rattle.rules.specs.Capacities.{block_room, label_room, reloc_room}
 use Rattle.rules.specs.Words.{field, Op, instr, orig, fill, blkw, stringz, end, external}
 use Rattle.rules.specs.Statements.{Stmt, Target}
@@ -85,20 +85,20 @@ grown-new t n s h e l g a = record {
     at_name m r q (more p) = elsewhere m r q (λ z. lt-ne name_order n m p (sym z))
 
 pub name-grows : (v : Lab) (p : Span) (n : S.Name) (t u : Table Name Symbol) → SymbolsOk t → good_name n.text ≡ true → address_of v < 65536 → add_label v p n t ≡ ok u → Grown t u
-unfolding add_label if◌then◌else◌
+unfolding add_label when◌then◌else◌
 name-grows v p n t u h g a e = go (look name_order t n.text) refl e
   where
-    held : (b : Bool) (s : Symbol) → (if b then ok t else refuse2 25 s.place n.place) ≡ ok u → Grown t u
+    held : (b : Bool) (s : Symbol) → (when b then ok t else refuse2 25 s.place n.place) ≡ ok u → Grown t u
     held true s x = let q : t ≡ u = cc in rw (← q) (grown-same t h)
     held false s x = never cc
 
-    new : (b : Bool) → ltb (length t) label_room ≡ b → look name_order t n.text ≡ none → (if b then ok (insert name_order newer (n.text, symbol v n.place) t) else refuse 40 p) ≡ ok u → Grown t u
+    new : (b : Bool) → ltb (length t) label_room ≡ b → look name_order t n.text ≡ none → (when b then ok (insert name_order newer (n.text, symbol v n.place) t) else refuse 40 p) ≡ ok u → Grown t u
     new true l q x = let i : insert name_order newer (n.text, symbol v n.place) t ≡ u = cc in rw (← i) (grown-new t n.text (symbol v n.place) h q (ltb-true (length t) label_room l) g a)
     new false l q x = never cc
 
     go : (o : Option Symbol) → look name_order t n.text ≡ o → ◌≡◌ {A = Outcome (Table Name Symbol)} (elim o [
-      | some s ↦ if eqb (address_of s.lab) (address_of v) then ok t else refuse2 25 s.place n.place
-      | none ↦ if ltb (length t) label_room then ok (insert name_order newer (n.text, symbol v n.place) t) else refuse 40 p
+      | some s ↦ when eqb (address_of s.lab) (address_of v) then ok t else refuse2 25 s.place n.place
+      | none ↦ when ltb (length t) label_room then ok (insert name_order newer (n.text, symbol v n.place) t) else refuse 40 p
     ]) (ok u) → Grown t u
     go (some s) q x = held (eqb (address_of s.lab) (address_of v)) s x
     go none q x = new (ltb (length t) label_room) refl q x
@@ -214,10 +214,10 @@ module _ (a : ℕ) (n : Name) (p : Span) (o c : Pass1State) (h : Kept o) (x : Ou
       go (some k) z = same_some z
 
   relocated-onward : relocated a n p o ≡ ok c → Onward o c
-  unfolding relocated if◌then◌else◌
+  unfolding relocated when◌then◌else◌
   relocated-onward e = go (has (look nat_order o.relocs a) || ltb (length o.relocs) reloc_room) refl e
     where
-      go : (b : Bool) → (has (look nat_order o.relocs a) || ltb (length o.relocs) reloc_room) ≡ b → (if b then ok (with_relocs (insert nat_order newer (a, n) o.relocs) o) else refuse 40 p) ≡ ok c → Onward o c
+      go : (b : Bool) → (has (look nat_order o.relocs a) || ltb (length o.relocs) reloc_room) ≡ b → (when b then ok (with_relocs (insert nat_order newer (a, n) o.relocs) o) else refuse 40 p) ≡ ok c → Onward o c
       go true q z = rw (← given-ok z) (record {
         kept = record {
           symbols = h.symbols;
@@ -260,14 +260,14 @@ still-refl : (o : Pass1State) → Still o o
 still-refl o = record { symbols = refl; relocs = refl }
 
 closed-still : (k : Cursor) (p : Span) (o c : Pass1State) → closed k p o ≡ ok c → Still o c
-unfolding closed if◌then◌else◌
+unfolding closed when◌then◌else◌
 closed-still k p o c e = by-empty (eqb k.counter k.start) e
   where
-    by-room : (b : Bool) → (if b then ok (pass1_state none o.symbols o.relocs (o.blocks + 1) (o.words + (k.counter - k.start))) else refuse 40 p) ≡ ok c → Still o c
+    by-room : (b : Bool) → (when b then ok (pass1_state none o.symbols o.relocs (o.blocks + 1) (o.words + (k.counter - k.start))) else refuse 40 p) ≡ ok c → Still o c
     by-room true x = rw (← given-ok x) (record { symbols = refl; relocs = refl })
     by-room false x = never cc
 
-    by-empty : (b : Bool) → (if b then ok (with_cursor none o) else (if ltb o.blocks block_room then ok (pass1_state none o.symbols o.relocs (o.blocks + 1) (o.words + (k.counter - k.start))) else refuse 40 p)) ≡ ok c → Still o c
+    by-empty : (b : Bool) → (when b then ok (with_cursor none o) else (when ltb o.blocks block_room then ok (pass1_state none o.symbols o.relocs (o.blocks + 1) (o.words + (k.counter - k.start))) else refuse 40 p)) ≡ ok c → Still o c
     by-empty true x = rw (← given-ok x) (record { symbols = refl; relocs = refl })
     by-empty false x = by-room (ltb o.blocks block_room) x
 
@@ -291,24 +291,24 @@ orig-still s o c e = go o.cursor e
     go (some k) x = never cc
 
 pub advanced-still : (n : ℕ) (p : Span) (o c : Pass1State) → advanced n p o ≡ ok c → (c.symbols ≡ o.symbols) × (c.relocs ≡ o.relocs)
-unfolding advanced if◌then◌else◌
+unfolding advanced when◌then◌else◌
 advanced-still n p o c e = go o.cursor e
   where
-    by-io : (b : Bool) → (if b then refuse 27 p else refuse 26 p) ≡ ok c → (c.symbols ≡ o.symbols) × (c.relocs ≡ o.relocs)
+    by-io : (b : Bool) → (when b then refuse 27 p else refuse 26 p) ≡ ok c → (c.symbols ≡ o.symbols) × (c.relocs ≡ o.relocs)
     by-io true x = never cc
     by-io false x = never cc
 
-    by-low : (k : Cursor) (b : Bool) → (if b then ok (with_cursor (some (shifted n k)) o) else (if leb (k.counter + n) 0x10000 then refuse 27 p else refuse 26 p)) ≡ ok c → (c.symbols ≡ o.symbols) × (c.relocs ≡ o.relocs)
+    by-low : (k : Cursor) (b : Bool) → (when b then ok (with_cursor (some (shifted n k)) o) else (when leb (k.counter + n) 0x10000 then refuse 27 p else refuse 26 p)) ≡ ok c → (c.symbols ≡ o.symbols) × (c.relocs ≡ o.relocs)
     by-low k true x = rw (← given-ok x) (refl, refl)
     by-low k false x = by-io (leb (k.counter + n) 0x10000) x
 
-    by-none : (k : Cursor) (b : Bool) → (if b then ok o else (if leb (k.counter + n) 0xfe00 then ok (with_cursor (some (shifted n k)) o) else (if leb (k.counter + n) 0x10000 then refuse 27 p else refuse 26 p))) ≡ ok c → (c.symbols ≡ o.symbols) × (c.relocs ≡ o.relocs)
+    by-none : (k : Cursor) (b : Bool) → (when b then ok o else (when leb (k.counter + n) 0xfe00 then ok (with_cursor (some (shifted n k)) o) else (when leb (k.counter + n) 0x10000 then refuse 27 p else refuse 26 p))) ≡ ok c → (c.symbols ≡ o.symbols) × (c.relocs ≡ o.relocs)
     by-none k true x = rw (← given-ok x) (refl, refl)
     by-none k false x = by-low k (leb (k.counter + n) 0xfe00) x
 
     go : (k : Option Cursor) → ◌≡◌ {A = Outcome Pass1State} (elim k [
       | none ↦ ok o
-      | some k ↦ if eqb n 0 then ok o else (if leb (k.counter + n) 0xfe00 then ok (with_cursor (some (record { start = k.start; counter = k.counter + n; place = k.place })) o) else (if leb (k.counter + n) 0x10000 then refuse 27 p else refuse 26 p))
+      | some k ↦ when eqb n 0 then ok o else (when leb (k.counter + n) 0xfe00 then ok (with_cursor (some (record { start = k.start; counter = k.counter + n; place = k.place })) o) else (when leb (k.counter + n) 0x10000 then refuse 27 p else refuse 26 p))
     ]) (ok c) → (c.symbols ≡ o.symbols) × (c.relocs ≡ o.relocs)
     go none x = rw (← given-ok x) (refl, refl)
     go (some k) x = by-none k (eqb n 0) x

@@ -8,7 +8,7 @@ use mathlib.Core.Option.{Option, none, some}
 use native.Mathlib.Omega.{arith}
 use lib.ListN.{length, drop}
 use borrow.Author.Tests.{eqb-true}
-use Rattle.rules.specs.Base.{if◌then◌else◌, Outcome, ok, refused, ◌>>◌, verdict}
+use Rattle.rules.specs.Base.{when◌then◌else◌, Outcome, ok, refused, ◌>>◌, verdict}
 use Rattle.rules.specs.Tokens.{Token, Kind, number, register, mark, word, directive, text, next_token, ascii, lexed}
 use Rattle.rules.specs.Statements.{Name, Stmt, is_mark, token_is, stop_at, walk, past_lines, past_colon, label_at, past_label, labels_at, past_labels, Read, next_statement, statements_at, statements}
 use Rattle.rules.proofs.Walk.{tokens_on, onward, tokens-end, tokens-onward, Moves, next-moves, whole_on, whole-start}
@@ -65,10 +65,10 @@ module _ (s : List ℕ) where
   lines_same i = walk_same (token_is (is_mark 10) s) (stop_at s) stop-on (length s - i) i
 
   colon-same : (i : ℕ) → Same i (past_colon s i)
-  unfolding past_colon if◌then◌else◌
+  unfolding past_colon when◌then◌else◌
   colon-same i = go (token_is (is_mark 58) s i)
     where
-      go : (b : Bool) → Same i (if b then stop_at s i else i)
+      go : (b : Bool) → Same i (when b then stop_at s i else i)
       go true = stop-on i
       go false = refl
 

@@ -6,7 +6,7 @@ use mathlib.Core.Option.{Option, none, some}
 use Prim.Native.Nat.{ℕ, zero, suc, ◌+◌, ◌-◌, ◌*◌}
 use lib.Dec.{eqb, leb, ltb}
 use lib.ListN.{length}
-use Rattle.rules.specs.Base.{if◌then◌else◌, Outcome, ok, refused, refuse, require, ◌>>=◌, ◌>>◌, Span, span, nowhere}
+use Rattle.rules.specs.Base.{when◌then◌else◌, Outcome, ok, refused, refuse, require, ◌>>=◌, ◌>>◌, Span, span, nowhere}
 use Rattle.rules.specs.Capacities.{source_room}
 use Rattle.rules.specs.Tokens.{Num, Found, token, blank, bad, Token, kept, token_at, tokens_from, tokens, ascii, lexed, next_token, blame}
 use Rattle.rules.specs.Words.{Range, signed, Field, reg, reg_or_imm, num, near, name, string, Row, find, instructions, directives}
@@ -21,8 +21,8 @@ single-bind : {A B : Type 0} (o : Outcome A) (f : A → Outcome B) → Single o 
 single-bind (ok a) f s h = h a
 single-bind (refused r) f s h = s
 
-single-if : {A : Type 0} (b : Bool) (x y : Outcome A) → Single x → Single y → Single (if b then x else y)
-unfolding if◌then◌else◌
+single-if : {A : Type 0} (b : Bool) (x y : Outcome A) → Single x → Single y → Single (when b then x else y)
+unfolding when◌then◌else◌
 single-if true x y h k = h
 single-if false x y h k = k
 
@@ -118,7 +118,7 @@ module _ (s : List ℕ) where
 
   instr-single : (ls : List Name) (r : Row) (t : Token) → Single (instr_read s ls r t)
   unfolding instr_read
-  instr-single ls r t = single-if r.optional _ _ (row-single ls r t (if token_is ends s t.place.stop then [] else r.fields) 13) (row-single ls r t r.fields 14)
+  instr-single ls r t = single-if r.optional _ _ (row-single ls r t (when token_is ends s t.place.stop then [] else r.fields) 13) (row-single ls r t r.fields 14)
 
   read-single : (ls : List Name) (t : Token) → Single (token_read s ls t)
   unfolding token_read
@@ -130,7 +130,7 @@ module _ (s : List ℕ) where
 
       by_word : (o : Option (List ℕ)) → Single {A = Option Read} (elim o as (λ x. Outcome (Option Read)) [
         | some w ↦ elim (find w instructions) [ some r ↦ instr_read s ls r t | none ↦ refuse 16 t.place ]
-        | none ↦ if is_mark 0 t.kind && eqb (length ls) 0 then ok none else refuse 13 t.place
+        | none ↦ when is_mark 0 t.kind && eqb (length ls) 0 then ok none else refuse 13 t.place
       ])
       by_word (some w) = by-find (find w instructions)
       by_word none = single-if (is_mark 0 t.kind && eqb (length ls) 0) (ok none) (refuse 13 t.place) tt refl
@@ -139,7 +139,7 @@ module _ (s : List ℕ) where
         | some d ↦ need (find d directives) 13 t.place (λ r. row_read s ls r t r.fields 14)
         | none ↦ elim (as_word t.kind) [
           | some w ↦ elim (find w instructions) [ some r ↦ instr_read s ls r t | none ↦ refuse 16 t.place ]
-          | none ↦ if is_mark 0 t.kind && eqb (length ls) 0 then ok none else refuse 13 t.place
+          | none ↦ when is_mark 0 t.kind && eqb (length ls) 0 then ok none else refuse 13 t.place
         ]
       ])
       by-dot (some d) = need-single (find d directives) 13 t.place (λ r. row_read s ls r t r.fields 14) (λ r. row-single ls r t r.fields 14)

@@ -9,7 +9,7 @@ use native.Mathlib.Omega.{arith}
 use lib.Dec.{eqb, leb, ltb}
 use lib.ListN.{length}
 use borrow.Author.Tests.{eqb-true, eqb-false, leb-true, ltb-true}
-use Rattle.rules.specs.Base.{if◌then◌else◌, Outcome, ok, refuse, refuse2, ◌>>=◌, Span, has}
+use Rattle.rules.specs.Base.{when◌then◌else◌, Outcome, ok, refuse, refuse2, ◌>>=◌, Span, has}
 use Rattle.rules.specs.Capacities.{block_room, reloc_room}
 use Rattle.rules.specs.Words.{Op, instr, orig, fill, blkw, stringz, end, external}
 use Rattle.rules.specs.Statements.{Stmt, Target}
@@ -95,10 +95,10 @@ labels-same (n ∷ ns) p o c e = go o.cursor refl e
         rw (← given-ok u.then') (record { cursor = refl; blocks = refl; words = refl })
 
 relocated-same : (a : ℕ) (n : Name) (p : Span) (o c : Pass1State) → relocated a n p o ≡ ok c → Same o c
-unfolding relocated if◌then◌else◌
+unfolding relocated when◌then◌else◌
 relocated-same a n p o c e = go (has (look nat_order o.relocs a) || ltb (length o.relocs) reloc_room) e
   where
-    go : (b : Bool) → (if b then ok (with_relocs (insert nat_order newer (a, n) o.relocs) o) else refuse 40 p) ≡ ok c → Same o c
+    go : (b : Bool) → (when b then ok (with_relocs (insert nat_order newer (a, n) o.relocs) o) else refuse 40 p) ≡ ok c → Same o c
     go true x = rw (← given-ok x) (record { cursor = refl; blocks = refl; words = refl })
     go false x = never cc
 
@@ -155,14 +155,14 @@ orig-begins s o c e = go o.cursor refl e
 
 module _ (k : Cursor) (p : Span) (o c : Pass1State) (q : o.cursor ≡ some k) where
   closed-ends : closed k p o ≡ ok c → Ends o c
-  unfolding closed if◌then◌else◌
+  unfolding closed when◌then◌else◌
   closed-ends e = by-empty (eqb k.counter k.start) refl e
     where
-      by-room : (b : Bool) → ltb o.blocks block_room ≡ b → (k.counter ≡ k.start → ⊥) → (if b then ok (pass1_state none o.symbols o.relocs (o.blocks + 1) (o.words + (k.counter - k.start))) else refuse 40 p) ≡ ok c → Ends o c
+      by-room : (b : Bool) → ltb o.blocks block_room ≡ b → (k.counter ≡ k.start → ⊥) → (when b then ok (pass1_state none o.symbols o.relocs (o.blocks + 1) (o.words + (k.counter - k.start))) else refuse 40 p) ≡ ok c → Ends o c
       by-room true h n x = rw (← given-ok x) (record { block = k; before = q; cursor = refl; counts = inr (record { few = ltb-true o.blocks block_room h; some' = n; blocks = refl; words = refl }) })
       by-room false h n x = never cc
 
-      by-empty : (b : Bool) → eqb k.counter k.start ≡ b → (if b then ok (with_cursor none o) else (if ltb o.blocks block_room then ok (pass1_state none o.symbols o.relocs (o.blocks + 1) (o.words + (k.counter - k.start))) else refuse 40 p)) ≡ ok c → Ends o c
+      by-empty : (b : Bool) → eqb k.counter k.start ≡ b → (when b then ok (with_cursor none o) else (when ltb o.blocks block_room then ok (pass1_state none o.symbols o.relocs (o.blocks + 1) (o.words + (k.counter - k.start))) else refuse 40 p)) ≡ ok c → Ends o c
       by-empty true h x = rw (← given-ok x) (record { block = k; before = q; cursor = refl; counts = inl (record { empty = eqb-true k.counter k.start h; blocks = refl; words = refl }) })
       by-empty false h x = by-room (ltb o.blocks block_room) refl (eqb-false k.counter k.start h) x
 
@@ -176,7 +176,7 @@ end-ends s o c e = go o.cursor refl e
 
 module _ (n : ℕ) (p : Span) (o c : Pass1State) where
   advanced-goes : advanced n p o ≡ ok c → Goes n o c
-  unfolding advanced if◌then◌else◌
+  unfolding advanced when◌then◌else◌
   advanced-goes e = go o.cursor refl e
     where
       stay : (k : Option Cursor) → o.cursor ≡ k → n ≡ 0 → o ≡ c → Goes n o c
@@ -188,11 +188,11 @@ module _ (n : ℕ) (p : Span) (o c : Pass1State) where
         words = refl;
       })
 
-      by-io : (k : Cursor) → (b : Bool) → (if b then refuse 27 p else refuse 26 p) ≡ ok c → Goes n o c
+      by-io : (k : Cursor) → (b : Bool) → (when b then refuse 27 p else refuse 26 p) ≡ ok c → Goes n o c
       by-io k true x = never cc
       by-io k false x = never cc
 
-      by-low : (k : Cursor) → o.cursor ≡ some k → (b : Bool) → leb (k.counter + n) 0xfe00 ≡ b → (if b then ok (with_cursor (some (shifted n k)) o) else (if leb (k.counter + n) 0x10000 then refuse 27 p else refuse 26 p)) ≡ ok c → Goes n o c
+      by-low : (k : Cursor) → o.cursor ≡ some k → (b : Bool) → leb (k.counter + n) 0xfe00 ≡ b → (when b then ok (with_cursor (some (shifted n k)) o) else (when leb (k.counter + n) 0x10000 then refuse 27 p else refuse 26 p)) ≡ ok c → Goes n o c
       by-low k q true h x = rw (← given-ok x) (record {
         outside = λ z. (let y : ◌≡◌ {A = Option Cursor} none (some k) = sym z ∙ q in never cc);
         inside = λ j z. (let y : k ≡ j = cc in rw y);
@@ -202,13 +202,13 @@ module _ (n : ℕ) (p : Span) (o c : Pass1State) where
       })
       by-low k q false h x = by-io k (leb (k.counter + n) 0x10000) x
 
-      by-none : (k : Cursor) → o.cursor ≡ some k → (b : Bool) → eqb n 0 ≡ b → (if b then ok o else (if leb (k.counter + n) 0xfe00 then ok (with_cursor (some (shifted n k)) o) else (if leb (k.counter + n) 0x10000 then refuse 27 p else refuse 26 p))) ≡ ok c → Goes n o c
+      by-none : (k : Cursor) → o.cursor ≡ some k → (b : Bool) → eqb n 0 ≡ b → (when b then ok o else (when leb (k.counter + n) 0xfe00 then ok (with_cursor (some (shifted n k)) o) else (when leb (k.counter + n) 0x10000 then refuse 27 p else refuse 26 p))) ≡ ok c → Goes n o c
       by-none k q true h x = stay (some k) q (eqb-true n 0 h) (given-ok x)
       by-none k q false h x = by-low k q (leb (k.counter + n) 0xfe00) refl x
 
       go : (k : Option Cursor) → o.cursor ≡ k → ◌≡◌ {A = Outcome Pass1State} (elim k [
         | none ↦ ok o
-        | some k ↦ if eqb n 0 then ok o else (if leb (k.counter + n) 0xfe00 then ok (with_cursor (some (record { start = k.start; counter = k.counter + n; place = k.place })) o) else (if leb (k.counter + n) 0x10000 then refuse 27 p else refuse 26 p))
+        | some k ↦ when eqb n 0 then ok o else (when leb (k.counter + n) 0xfe00 then ok (with_cursor (some (record { start = k.start; counter = k.counter + n; place = k.place })) o) else (when leb (k.counter + n) 0x10000 then refuse 27 p else refuse 26 p))
       ]) (ok c) → Goes n o c
       go none q x = rw (← given-ok x) (record {
         outside = λ h. h;

@@ -9,7 +9,7 @@ use native.Mathlib.Omega.{arith}
 use lib.Dec.{eqb}
 use lib.ListN.{length, replicate}
 use borrow.Author.Tests.{eqb-true}
-use Rattle.rules.specs.Base.{if◌then◌else◌, Outcome, ok, refuse, ◌>>=◌, Span}
+use Rattle.rules.specs.Base.{when◌then◌else◌, Outcome, ok, refuse, ◌>>=◌, Span}
 use Rattle.rules.specs.Words.{reach, field, Op, instr, orig, fill, blkw, stringz, end, external}
 use Rattle.rules.specs.Statements.{Stmt, Target}
 use Rattle.rules.specs.Statements as S
@@ -170,7 +170,7 @@ module _ (y : Table Name Symbol) (k : SymbolsOk y) (s : Stmt) (g : Sound s) (t u
           })
 
   finish-keeps : finish t ≡ ok u → Keeps t u
-  unfolding finish if◌then◌else◌
+  unfolding finish when◌then◌else◌
   finish-keeps e = go t.current refl e
     where
       dropped : (b : ObjBlock) → t.current ≡ some b → length b.words ≡ 0 → (x : ℕ) → HeldIn x t.current ⊎ Any (Has x) t.blocks → ⊥ ⊎ Any (Has x) t.blocks
@@ -185,7 +185,7 @@ module _ (y : Table Name Symbol) (k : SymbolsOk y) (s : Stmt) (g : Sound s) (t u
       moved b q bs w x (inl h) = inr (w.any (Has x) (inl (rw q at h)))
       moved b q bs w x (inr h) = inr (w.any (Has x) (inr h))
 
-      by_size : (b : ObjBlock) → t.current ≡ some b → (z : Bool) → eqb (length b.words) 0 ≡ z → (if z then ok (pass2_state none t.blocks) else (place b t.blocks >>= λ bs. ok (pass2_state none bs))) ≡ ok u → Keeps t u
+      by_size : (b : ObjBlock) → t.current ≡ some b → (z : Bool) → eqb (length b.words) 0 ≡ z → (when z then ok (pass2_state none t.blocks) else (place b t.blocks >>= λ bs. ok (pass2_state none bs))) ≡ ok u → Keeps t u
       by_size b q true h x =
           let i : pass2_state none t.blocks ≡ u = cc in
           rw (← i) (record { low-open = λ l c z. absurd (none-some z); low = λ l m. m; held = dropped b q (eqb-true (length b.words) 0 h) })
@@ -197,7 +197,7 @@ module _ (y : Table Name Symbol) (k : SymbolsOk y) (s : Stmt) (g : Sound s) (t u
 
       go : (b : Option ObjBlock) → t.current ≡ b → ◌≡◌ {A = Outcome Pass2State} (elim b [
         | none ↦ ok t
-        | some b ↦ if eqb (length b.words) 0 then ok (pass2_state none t.blocks) else (place b t.blocks >>= λ bs. ok (pass2_state none bs))
+        | some b ↦ when eqb (length b.words) 0 then ok (pass2_state none t.blocks) else (place b t.blocks >>= λ bs. ok (pass2_state none bs))
       ]) (ok u) → Keeps t u
       go none q x = let i : t ≡ u = cc in rw (← i) (record { low-open = λ h. h; low = λ h m. m; held = λ x h. h })
       go (some b) q x = by_size b q (eqb (length b.words) 0) refl x

@@ -7,7 +7,7 @@ use mathlib.Core.Option.{Option, none, some}
 use Prim.Native.Nat.{ℕ, ◌+◌, ◌-◌}
 use lib.Dec.{eqb, ltb}
 use lib.ListN.{length}
-use Rattle.rules.specs.Base.{if◌then◌else◌, Outcome, ok, refuse, refuse2, ◌>>=◌, Span, has}
+use Rattle.rules.specs.Base.{when◌then◌else◌, Outcome, ok, refuse, refuse2, ◌>>=◌, Span, has}
 use Rattle.rules.specs.Capacities.{block_room, reloc_room}
 use Rattle.rules.specs.Words.{Op, instr, orig, fill, blkw, stringz, end, external}
 use Rattle.rules.specs.Statements.{Stmt, Target}
@@ -55,7 +55,7 @@ labels-relocs (n ∷ ns) p o c e = go o.cursor e
 module _ (a : ℕ) (n : Name) (p : Span) (o c : Pass1State) (h : Sorted nat_order o.relocs) where
   -- the relocation at a is new; every other stays
   relocated-new : relocated a n p o ≡ ok c → (x : ℕ) (m : Name) → look nat_order c.relocs x ≡ some m → (look nat_order o.relocs x ≡ some m) ⊎ (x ≡ a)
-  unfolding relocated if◌then◌else◌
+  unfolding relocated when◌then◌else◌
   relocated-new e x m q = go (has (look nat_order o.relocs a) || ltb (length o.relocs) reloc_room) e
     where
       by_place : look nat_order (insert nat_order newer (a, n) o.relocs) x ≡ some m → Tri nat_order.lt x a → (look nat_order o.relocs x ≡ some m) ⊎ (x ≡ a)
@@ -63,7 +63,7 @@ module _ (a : ℕ) (n : Name) (p : Span) (o c : Pass1State) (h : Sorted nat_orde
       by_place w (same l) = inr l
       by_place w (more l) = inl (sym (look-insert-there nat_order newer (a, n) o.relocs x (λ z. lt-ne nat_order a x l (sym z))) ∙ w)
 
-      go : (b : Bool) → (if b then ok (with_relocs (insert nat_order newer (a, n) o.relocs) o) else refuse 40 p) ≡ ok c → (look nat_order o.relocs x ≡ some m) ⊎ (x ≡ a)
+      go : (b : Bool) → (when b then ok (with_relocs (insert nat_order newer (a, n) o.relocs) o) else refuse 40 p) ≡ ok c → (look nat_order o.relocs x ≡ some m) ⊎ (x ≡ a)
       go true z = by_place (rw (← given-ok z) at q) (nat_order.tri x a)
       go false z = never cc
 
@@ -97,14 +97,14 @@ stays : (s : Stmt) (o c : Pass1State) → c.relocs ≡ o.relocs → New s o o c
 stays s o c e x n q = inl (rw e at q)
 
 closed-relocs : (k : Cursor) (p : Span) (o c : Pass1State) → closed k p o ≡ ok c → c.relocs ≡ o.relocs
-unfolding closed if◌then◌else◌
+unfolding closed when◌then◌else◌
 closed-relocs k p o c e = by-empty (eqb k.counter k.start) e
   where
-    by-room : (b : Bool) → (if b then ok (pass1_state none o.symbols o.relocs (o.blocks + 1) (o.words + (k.counter - k.start))) else refuse 40 p) ≡ ok c → c.relocs ≡ o.relocs
+    by-room : (b : Bool) → (when b then ok (pass1_state none o.symbols o.relocs (o.blocks + 1) (o.words + (k.counter - k.start))) else refuse 40 p) ≡ ok c → c.relocs ≡ o.relocs
     by-room true x = rw (← given-ok x)
     by-room false x = never cc
 
-    by-empty : (b : Bool) → (if b then ok (with_cursor none o) else (if ltb o.blocks block_room then ok (pass1_state none o.symbols o.relocs (o.blocks + 1) (o.words + (k.counter - k.start))) else refuse 40 p)) ≡ ok c → c.relocs ≡ o.relocs
+    by-empty : (b : Bool) → (when b then ok (with_cursor none o) else (when ltb o.blocks block_room then ok (pass1_state none o.symbols o.relocs (o.blocks + 1) (o.words + (k.counter - k.start))) else refuse 40 p)) ≡ ok c → c.relocs ≡ o.relocs
     by-empty true x = rw (← given-ok x)
     by-empty false x = by-room (ltb o.blocks block_room) x
 

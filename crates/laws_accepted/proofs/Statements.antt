@@ -9,7 +9,7 @@ use native.Mathlib.Omega.{arith}
 use lib.Dec.{eqb, ltb}
 use lib.ListN.{length, drop}
 use borrow.Author.Tests.{ltb-true}
-use Rattle.rules.specs.Base.{if◌then◌else◌, Outcome, ok, require, ◌>>=◌, span}
+use Rattle.rules.specs.Base.{when◌then◌else◌, Outcome, ok, require, ◌>>=◌, span}
 use Rattle.rules.specs.Tokens.{escape, ascii}
 use Rattle.rules.specs.Words.{field}
 use Rattle.rules.specs.Statements.{Name, Target, Stmt, Read, name_at, past_lines, past_label, labels_from, labels_at, next_statement, statements_from, statements_at, statements}
@@ -54,14 +54,14 @@ low-drop [] (suc i) h = tt
 low-drop (c ∷ s) (suc i) h = low-drop s i h.1
 
 escape-low : (at d : ℕ) → d < 65536 → LowChar (first_of at (escape d))
-unfolding escape if◌then◌else◌
+unfolding escape when◌then◌else◌
 escape-low at d h = go (eqb d 110) (eqb d 114) (eqb d 116) (eqb d 48)
   where
-    last : (b : Bool) → LowChar (first_of at (if b then d ∷ [] else 92 ∷ d ∷ []))
+    last : (b : Bool) → LowChar (first_of at (when b then d ∷ [] else 92 ∷ d ∷ []))
     last true = h
     last false = omega arith
 
-    go : (a b c e : Bool) → LowChar (first_of at (if a then 10 ∷ [] else if b then 13 ∷ [] else if c then 9 ∷ [] else if e then 0 ∷ [] else if eqb d 92 || eqb d 34 then d ∷ [] else 92 ∷ d ∷ []))
+    go : (a b c e : Bool) → LowChar (first_of at (when a then 10 ∷ [] else when b then 13 ∷ [] else when c then 9 ∷ [] else when e then 0 ∷ [] else when eqb d 92 || eqb d 34 then d ∷ [] else 92 ∷ d ∷ []))
     go true b c e = omega arith
     go false true c e = omega arith
     go false false true e = omega arith
@@ -74,11 +74,11 @@ back_low at [] h = omega arith
 back_low at (d ∷ s) h = escape-low at d h.0
 
 char-low : (at : ℕ) (s : List ℕ) → Low s → LowChar (char_at at s)
-unfolding char_at if◌then◌else◌
+unfolding char_at when◌then◌else◌
 char-low at [] h = tt
 char-low at (c ∷ s) h = go (eqb c 34) (eqb c 92)
   where
-    go : (q k : Bool) → LowChar (if q then Done else if k then after_backslash at s else Char c (at + 1))
+    go : (q k : Bool) → LowChar (when q then Done else when k then after_backslash at s else Char c (at + 1))
     go true k = tt
     go false true = back_low at s h.1
     go false false = h.0

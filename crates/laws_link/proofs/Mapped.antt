@@ -98,7 +98,7 @@ module _ {A : Type 0} (p : A → Bool) where
       go true q e ih = (y, Memᴰ.head refl, q)
       go false q e ih = let w = ih e in (w.0, Memᴰ.tail w.1, w.2)
 
-  pub any-mem : {l : List A} (x : A) → Memᴰ x l → p x ≡ true → any p l ≡ true
+  pub any-mem : (x : A) {l : List A} → Memᴰ x l → p x ≡ true → any p l ≡ true
   any-mem x (Memᴰ.head {xs = xs} q) e = ap (λ (b : Bool). b || any p xs) (ap p (sym q) ∙ e)
   any-mem x (Memᴰ.tail {x = y} {xs = xs} m) e = go (p y) (any-mem x m e)
     where

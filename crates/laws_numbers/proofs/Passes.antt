@@ -6,7 +6,7 @@ use mathlib.Core.Option.{Option, none, some}
 use lib.ListN.{length}
 use lib.Dec.{eqb, leb, ltb}
 use Rattle.rules.specs.Answers.{refusals}
-use Rattle.rules.specs.Base.{if◌then◌else◌, ok, refuse, refuse2, Span, ◌>>=◌, nowhere}
+use Rattle.rules.specs.Base.{when◌then◌else◌, ok, refuse, refuse2, Span, ◌>>=◌, nowhere}
 use Rattle.rules.specs.Capacities.{label_room}
 use Rattle.rules.specs.Words.{Range, reach, field, Op, instr, orig, fill, blkw, stringz, end, external}
 use Rattle.rules.specs.Statements as S
@@ -27,8 +27,8 @@ label-numbered v p n ss = go (look name_order ss n.text)
     go :
         (x : Option Symbol)
         → Numbered {A = Table Name Symbol} (elim x [
-          | some s ↦ if eqb (address_of s.lab) (address_of v) then ok ss else refuse2 25 s.place n.place
-          | none ↦ if ltb (length ss) label_room then ok (insert name_order newer (n.text, symbol v n.place) ss) else refuse 40 p
+          | some s ↦ when eqb (address_of s.lab) (address_of v) then ok ss else refuse2 25 s.place n.place
+          | none ↦ when ltb (length ss) label_room then ok (insert name_order newer (n.text, symbol v n.place) ss) else refuse 40 p
         ])
     go (some s) = chosen _ (gives _) (refuses _ refl)
     go none = chosen _ (gives _) (refuses _ refl)
@@ -117,9 +117,9 @@ advanced-numbered n p o = go o.cursor
           | none ↦ ok o
           | some c ↦
               let a = c.counter + n in
-              if eqb n 0 then ok o
-              else if leb a 0xfe00 then ok (with_cursor (some (record { start = c.start; counter = a; place = c.place })) o)
-              else if leb a 0x10000 then refuse 27 p
+              when eqb n 0 then ok o
+              else when leb a 0xfe00 then ok (with_cursor (some (record { start = c.start; counter = a; place = c.place })) o)
+              else when leb a 0x10000 then refuse 27 p
               else refuse 26 p
         ])
     go none = gives o
@@ -216,7 +216,7 @@ finish-numbered t = go t.current
         → Numbered {A = Pass2State} (elim x [
           | none ↦ ok t
           | some x ↦
-              if eqb (length x.words) 0 then ok (pass2_state none t.blocks)
+              when eqb (length x.words) 0 then ok (pass2_state none t.blocks)
               else (place x t.blocks >>= λ bs. ok (pass2_state none bs))
         ])
     go none = gives t

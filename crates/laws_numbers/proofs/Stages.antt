@@ -3,7 +3,7 @@ use Prim.Native.Nat.{ℕ}
 use mathlib.Core.Path.{◌≡◌, refl}
 use mathlib.Core.Bool.{Bool, true, false}
 use mathlib.Core.Option.{Option, none, some}
-use Rattle.rules.specs.Base.{if◌then◌else◌, Outcome, ok, refused, ◌>>=◌, require, Refusal, Span}
+use Rattle.rules.specs.Base.{when◌then◌else◌, Outcome, ok, refused, ◌>>=◌, require, Refusal, Span}
 use Rattle.rules.specs.Statements.{need}
 use Rattle.rules.proofs.Bools.{never, either}
 use Rattle.laws_numbers.specs.Known.{known, Numbered}
@@ -15,7 +15,7 @@ module _ {A : Type 0} where
   pub refuses : (r : Refusal) → known r.number ≡ true → Numbered {A = A} (refused r)
   refuses r k = record { number = λ q e. let f : r ≡ q = cc in rw f at k }
 
-  pub chosen : (b : Bool) {x y : Outcome A} → Numbered x → Numbered y → Numbered (if b then x else y)
+  pub chosen : (b : Bool) {x y : Outcome A} → Numbered x → Numbered y → Numbered (when b then x else y)
   chosen b p q = either Numbered b p q
 
 pub required : (b : Bool) (n : ℕ) (p : Span) → known n ≡ true → Numbered (require b n p)

@@ -7,7 +7,7 @@ use mathlib.Core.Option.{Option, none, some}
 use lib.ListN.{length}
 use lib.Dec.{eqb}
 use Rattle.rules.specs.Answers.{refusals}
-use Rattle.rules.specs.Base.{if◌then◌else◌, ok, refuse, Span, ◌>>=◌}
+use Rattle.rules.specs.Base.{when◌then◌else◌, ok, refuse, Span, ◌>>=◌}
 use Rattle.rules.specs.Tokens.{Num, Token}
 use Rattle.rules.specs.Words.{Range, signed, Field, reg, reg_or_imm, num, near, name, string, Row, instructions, directives, find}
 use Rattle.rules.specs.Statements.{Name, Stmt, Given, Piece, bits, target, as_register, as_number, as_label, as_directive, as_word, is_mark, fit, named, need, operand, bare, operand_at, comma_at, more_from, operands_from, line_end, ends, Read, row_read, instr_read, token_read, next_statement, statements_from, statements_at, statements, past_lines, past_labels, labels_at}
@@ -86,7 +86,7 @@ read-numbered s ls t = go (as_directive t.kind) (as_word t.kind)
           | some d ↦ need (find d directives) 13 t.place (λ r. row_read s ls r t r.fields 14)
           | none ↦ elim y [
             | some w ↦ elim (find w instructions) [ some r ↦ instr_read s ls r t | none ↦ refuse 16 t.place ]
-            | none ↦ if is_mark 0 t.kind && eqb (length ls) 0 then ok none else refuse 13 t.place
+            | none ↦ when is_mark 0 t.kind && eqb (length ls) 0 then ok none else refuse 13 t.place
           ]
         ])
     go (some d) y = needed (find d directives) 13 t.place _ refl λ r. row-numbered 14 refl s ls r t r.fields

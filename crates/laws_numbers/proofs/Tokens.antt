@@ -6,7 +6,7 @@ use mathlib.Core.List.{List, [], ◌∷◌}
 use lib.ListN.{length, drop}
 use lib.Dec.{leb, ltb}
 use Rattle.rules.specs.Answers.{refusals}
-use Rattle.rules.specs.Base.{if◌then◌else◌, ok, refuse, Span, span}
+use Rattle.rules.specs.Base.{when◌then◌else◌, ok, refuse, Span, span}
 use Rattle.rules.specs.Capacities.{source_room}
 use Rattle.rules.specs.Tokens.{Kind, Found, token, blank, bad, Match, match, Form, Quoted, open', closed, dec, dec_neg, hex, hex_neg, reg, value, digits, read, number_after, wrong_after, word_at, directive_after, after_hash, after_minus, after_x, after_r, after_quote, line, quoted, while, wordy, token_at, Token, token_in, blame, kept, tokens_from, tokens, next_from, next_token, ascii, lexed}
 use Rattle.rules.proofs.Bools.{never, either}
@@ -109,7 +109,7 @@ fine-quote s = go (quoted false (line s))
   where
     go :
         (q : Quoted)
-        → FineMatch (elim q [ open' ↦ match (bad 7) (1 + length (line s)) | closed t n ↦ match (if leb (length t) 65534 then token (Kind.text t) else bad 8) (1 + n) ])
+        → FineMatch (elim q [ open' ↦ match (bad 7) (1 + length (line s)) | closed t n ↦ match (when leb (length t) 65534 then token (Kind.text t) else bad 8) (1 + n) ])
     go open' = wrong 7 refl
     go (closed t n) = either Fine (leb (length t) 65534) (takes _) (wrong 8 refl)
 

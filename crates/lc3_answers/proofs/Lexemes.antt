@@ -2,7 +2,7 @@
 use Prim.Native.Nat.{ℕ}
 use mathlib.Core.Path.{◌≡◌, refl}
 use borrow.Author.Tests.{eq-eqb, ne_eqb}
-use Rattle.rules.specs.Base.{if◌then◌else◌, span}
+use Rattle.rules.specs.Base.{when◌then◌else◌, span}
 use Rattle.lex_token.specs.declared.Lexeme.{Lexeme}
 use Rattle.lex_reserved.specs.declared.Ident.TheVariants.{Reserved, Label}
 use Rattle.lex_token.specs.declared.Token.TheVariants.{Unsigned, Signed, Reg, Directive, String, Colon, Comma, NewLine}
@@ -14,7 +14,7 @@ use Rattle.lc3_answers.specs.declared.Reply.{Reply}
 use Rattle.lc3_answers.specs.Told.{reply, refused_at, token_told, next_told, lexeme_told}
 
 pub lexeme-told : (n : Next) → lexeme_told (flat_next n) ≡ next_told n
-unfolding if◌then◌else◌
+unfolding when◌then◌else◌
 lexeme-told (Took (Unsigned n) a e) = refl
 lexeme-told (Took (Signed n) a e) = refl
 lexeme-told (Took (Reg n) a e) = refl
@@ -30,9 +30,9 @@ lexeme-told (Refused n a e) = refl
 
 module _ (t : Lexeme) {n : ℕ} {r : Reply} (q : n ≡ t.value) where
   pub fault-told : t.sort ≡ fault_sort → r ≡ reply (refused_at n (span t.start t.end)) → r ≡ reply (lexeme_told t)
-  unfolding if◌then◌else◌
+  unfolding when◌then◌else◌
   fault-told e p = rw (eq-eqb t.sort fault_sort e, ← q) p
 
   pub good-told : {k : ℕ} → (t.sort ≡ fault_sort → ⊥) → k ≡ t.sort → r ≡ reply (token_told (lexeme k n t.start t.end)) → r ≡ reply (lexeme_told t)
-  unfolding if◌then◌else◌
+  unfolding when◌then◌else◌
   good-told e l p = rw (ne_eqb t.sort fault_sort e, ← q, ← l) p

@@ -1,7 +1,7 @@
 -- What each call from another language is told: an answer in nine numbers. Assumes nothing.
 use Rattle.std.specs.Prelude.{ℕ, ◌+◌, ◌*◌, ◌≤◌, ◌≡◌, List, [], ◌∷◌, get_or, eqb}
 use Rattle.std.proofs.Math.Option.{Option, none, some}
-use Rattle.rules.specs.Base.{if◌then◌else◌, Span, span, nowhere, Outcome, ok, refused}
+use Rattle.rules.specs.Base.{when◌then◌else◌, Span, span, nowhere, Outcome, ok, refused}
 use Rattle.rules.specs.Words.{Operand, register, value, Instr, instruction, filled}
 use Rattle.rules.specs.Words as R
 use Rattle.rules.specs.Objects.{Lab, outer, defined, Counts}
@@ -61,7 +61,7 @@ next_told (next.Refused n a e) = refused_at n (span a e)
 
 -- the same of the four numbers by which the code has it
 abbrev pub lexeme_told : Lexeme → Answer
-lexeme_told t = if eqb t.sort fault_sort then refused_at t.value (span t.start t.end) else token_told t
+lexeme_told t = when eqb t.sort fault_sort then refused_at t.value (span t.start t.end) else token_told t
 
 -- all statements
 abbrev pub statements_told : Statements → Answer

@@ -6,7 +6,7 @@ use mathlib.Core.List.{List}
 use native.Mathlib.Omega.{arith}
 use lib.Dec.{leb}
 use lib.ListN.{length}
-use Rattle.rules.specs.Base.{if◌then◌else◌, Outcome, ok, refused, Refusal, require, nowhere, ◌>>=◌, ◌>>◌}
+use Rattle.rules.specs.Base.{when◌then◌else◌, Outcome, ok, refused, Refusal, require, nowhere, ◌>>=◌, ◌>>◌}
 use Rattle.rules.specs.Answers.{answer}
 use Rattle.rules.specs.Objects.{Object}
 use Rattle.rules.specs.Buffers.{Buffers, lent_words, lay_words, lay_marks}
@@ -37,7 +37,7 @@ answer-refused a w n r e f = rw e (ap Refused f)
 
 module _ (s ws ms : List ℕ) (a : Answer) (b : Buffers) (l : Call.Assembled (lending ws ms) s a b) where
   called_is : Call.called (lending ws ms) s ≡ assemble (lent_words ws ms) s
-  unfolding Call.called of_bytes if◌then◌else◌
+  unfolding Call.called of_bytes when◌then◌else◌
   called_is = rw (lending-long ws ms) refl
 
   left : Leaves (assemble (lent_words ws ms) s) (lending ws ms) a b

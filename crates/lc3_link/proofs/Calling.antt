@@ -7,7 +7,7 @@ use native.Mathlib.Omega.{arith}
 use borrow.Author.Tests.{eqb-true}
 use lib.Dec.{eqb}
 use lib.ListN.{length}
-use Rattle.rules.specs.Base.{if◌then◌else◌, Outcome, ok, refused, Refusal, require, ◌>>◌, nowhere, span}
+use Rattle.rules.specs.Base.{when◌then◌else◌, Outcome, ok, refused, Refusal, require, ◌>>◌, nowhere, span}
 use Rattle.rules.specs.Capacities.{word_room}
 use Rattle.rules.specs.Answers.{answer}
 use Rattle.rules.specs.Tables.{Table, look, name_order}
@@ -43,7 +43,7 @@ refused-number o out a b q l e =
 -- LOADING
 module _ (s : List ℕ) (v : AreBytes s) where
   called_is : called lent s ≡ load word_room s
-  unfolding called of_bytes if◌then◌else◌
+  unfolding called of_bytes when◌then◌else◌
   called_is = rw (lent-long, lent-words) refl
 
   pub load-makes : (a : Answer) (b : Buffers) → Loaded lent s a b → Makes (load word_room s) lent a b
@@ -111,11 +111,11 @@ link_row room a b q e n = go (Answers.answer room a b) e
 pub blamed-name :
     (c : Counts) (b : Buffers) (y : Object) (a : Answer) (x : Buffers) → Valid c b → Makes (link word_room (view c b) y) lent a x
     → blamed_row a b.labels b.names ≡ in_the_way (view c b) (link word_room (view c b) y)
-unfolding blamed_row in_the_way if◌then◌else◌
+unfolding blamed_row in_the_way when◌then◌else◌
 blamed-name c b y a x v m = go (link word_room (view c b) y) refl
   where
     row : (q : Refusal) → link word_room (view c b) y ≡ refused q → (t : Bool) → eqb q.number 25 ≡ t
-        → (if t then name_row b.labels b.names q.first.start else []) ≡ (if t then name_in (view c b).labels q.first.start else [])
+        → (when t then name_row b.labels b.names q.first.start else []) ≡ (when t then name_in (view c b).labels q.first.start else [])
     row q e true h =
         let k = link_row word_room (view c b) y q e (eqb-true q.number 25 h) in
         let n : length (view c b).labels ≡ c.labels = ap (λ (d : Counts). d.labels) (valid-counts c b v) in

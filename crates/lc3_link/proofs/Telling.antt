@@ -5,7 +5,7 @@ use mathlib.Core.List.{List, [], ◌∷◌}
 use native.Mathlib.Omega.{arith}
 use borrow.Author.Tests.{eq-eqb, ne_eqb}
 use lib.ListN.{take}
-use Rattle.rules.specs.Base.{if◌then◌else◌, Outcome, ok, refused, Refusal}
+use Rattle.rules.specs.Base.{when◌then◌else◌, Outcome, ok, refused, Refusal}
 use Rattle.rules.specs.Capacities.{word_room}
 use Rattle.rules.specs.Objects.{Name, Object, Counts}
 use Rattle.rules.specs.Buffers.{Buffers, view, name_row, zeros}
@@ -34,11 +34,11 @@ use Rattle.lc3_link.proofs.Calling.{load-makes, link-makes, blamed-name}
 -- THE ROW'S NAME
 module _ (a : Answer) (ls ns : List ℕ) where
   pub row-blamed : a.number ≡ 25 → name_row ls ns a.start ≡ blamed_row a ls ns
-  unfolding blamed_row if◌then◌else◌
+  unfolding blamed_row when◌then◌else◌
   row-blamed e = rw (eq-eqb a.number 25 e)
 
   pub none-blamed : (name : List ℕ) → (a.number ≡ 25 → ⊥) → Put name name 0 0 (blamed_row a ls ns)
-  unfolding blamed_row if◌then◌else◌
+  unfolding blamed_row when◌then◌else◌
   none-blamed name n = rw (ne_eqb a.number 25 n) (put-none name 0)
 
 -- AN ANSWER

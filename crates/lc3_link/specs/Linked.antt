@@ -1,7 +1,7 @@
 -- Two stored objects linked, as bytes: what comes of it, and what is left in the lent buffers. Assumes nothing.
 use Rattle.std.specs.Prelude.{ℕ, zero, suc, ◌≡◌, false, List, [], ◌∷◌, eqb, length}
 use Rattle.std.proofs.Common.{sym, ◌∙◌}
-use Rattle.rules.specs.Base.{if◌then◌else◌, Outcome, ok, refused, ◌>>=◌}
+use Rattle.rules.specs.Base.{when◌then◌else◌, Outcome, ok, refused, ◌>>=◌}
 use Rattle.rules.specs.Capacities.{word_room}
 use Rattle.rules.specs.Tables.{Table}
 use Rattle.rules.specs.Objects.{Lab, Name, Object, Counts, Good}
@@ -32,7 +32,7 @@ name_in (e ∷ t) (suc r) = name_in t r
 -- 25 has the smallest such name's row in the first object; of no other refusal is it a name
 unfoldable pub in_the_way : Object → Outcome Object → Name
 in_the_way a (ok o) = []
-in_the_way a (refused q) = if eqb q.number 25 then name_in a.labels q.first.start else []
+in_the_way a (refused q) = when eqb q.number 25 then name_in a.labels q.first.start else []
 
 -- two objects linked, with all the words that an object can have, and the result stored in so many bytes: 28, 25, 40, 41, then 51
 unfoldable pub link_objects : ℕ → Object → Object → Comes
@@ -110,4 +110,4 @@ pub record Held (c : Counts) (b : Buffers) : Type 0 where
 
 -- the name of the row that a refusal names
 unfoldable pub blamed_row : Answer → List ℕ → List ℕ → Name
-blamed_row a ls ns = if eqb a.number 25 then name_row ls ns a.start else []
+blamed_row a ls ns = when eqb a.number 25 then name_row ls ns a.start else []

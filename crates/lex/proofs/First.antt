@@ -8,7 +8,7 @@ use native.Mathlib.Nat.{add-zero}
 use borrow.Author.Tests.{ne_eqb, le-leb, lt-leb, leb-true, eqb-true, ltb-true, ltb-false}
 use lib.Dec.{eqb, leb, ltb}
 use lib.ListN.{length, get_or, drop, length-drop}
-use Rattle.rules.specs.Base.{if◌then◌else◌, within}
+use Rattle.rules.specs.Base.{when◌then◌else◌, within}
 use Rattle.rules.specs.Tokens.{match, blank, digit, letter, space, upper, while, dec, number_after, word_at, directive_after, after_hash, after_minus, after_x, after_r, after_quote, token_at, next_token}
 use Rattle.rules.proofs.Sizes.{small, while-short}
 use Rattle.rules.proofs.Next.{here, next-end, next_here, here-blank}
@@ -57,40 +57,40 @@ module _ (c : ℕ) (s : List ℕ) where
     no_byte k h = ne_eqb c k (λ e. omega (arith, letter-low c l))
 
     pub letter-x : upper c ≡ 88 → token_at c s ≡ after_x c s
-    unfolding token_at if◌then◌else◌
+    unfolding token_at when◌then◌else◌
     letter-x e = rw (no_digit, no_byte 35 (omega arith), no_byte 45 (omega arith), e)
 
     pub letter-r : upper c ≡ 82 → token_at c s ≡ after_r c s
-    unfolding token_at if◌then◌else◌
+    unfolding token_at when◌then◌else◌
     letter-r e = rw (no_digit, no_byte 35 (omega arith), no_byte 45 (omega arith), e)
 
     pub letter-word : (upper c ≡ 82 → ⊥) → (upper c ≡ 88 → ⊥) → token_at c s ≡ word_at (c ∷ s)
-    unfolding token_at if◌then◌else◌
+    unfolding token_at when◌then◌else◌
     letter-word n m = rw (no_digit, no_byte 35 (omega arith), no_byte 45 (omega arith), ne_eqb (upper c) 88 m, ne_eqb (upper c) 82 n, l)
 
   -- what is no letter is none in upper case
   no-upper : (k : ℕ) → letter k ≡ true → letter c ≡ false → eqb (upper c) k ≡ false
-  unfolding upper if◌then◌else◌
+  unfolding upper when◌then◌else◌
   no-upper k y n = ne_eqb (upper c) k (go (within "a" "z" c) refl)
     where
-      go : (b : Bool) → within "a" "z" c ≡ b → (if b then c - 32 else c) ≡ k → ⊥
+      go : (b : Bool) → within "a" "z" c ≡ b → (when b then c - 32 else c) ≡ k → ⊥
       go true e h = never (cc (small c e))
       go false e h = never (cc (ap letter h))
 
   pub digit-first : digit c ≡ true → token_at c s ≡ number_after 0 dec (c ∷ s)
-  unfolding token_at if◌then◌else◌
+  unfolding token_at when◌then◌else◌
   digit-first e = rw e
 
   pub hash-first : c ≡ 35 → token_at c s ≡ after_hash s
-  unfolding token_at digit if◌then◌else◌
+  unfolding token_at digit when◌then◌else◌
   hash-first e = rw e
 
   pub minus-first : c ≡ 45 → token_at c s ≡ after_minus s
-  unfolding token_at digit if◌then◌else◌
+  unfolding token_at digit when◌then◌else◌
   minus-first e = rw e
 
   pub other-first : letter c ≡ false → digit c ≡ false → (c ≡ 35 → ⊥) → (c ≡ 45 → ⊥) → token_at c s ≡ after_other c s
-  unfolding token_at after_other if◌then◌else◌
+  unfolding token_at after_other when◌then◌else◌
   other-first l d n m = rw (d, ne_eqb c 35 n, ne_eqb c 45 m, no-upper 88 X-letter l, no-upper 82 R-letter l, l)
 
 -- the rule's last tests, by places
@@ -105,42 +105,42 @@ module _ (s : List ℕ) (start : ℕ) where
   other = told s start (after_other first rest)
 
   pub is-comma : first ≡ 44 → Took Comma start (start + 1) ≡ other
-  unfolding told here coded coded_as marked after_other if◌then◌else◌
+  unfolding told here coded coded_as marked after_other when◌then◌else◌
   is-comma e = rw e
 
   pub is-line : first ≡ 10 → Took NewLine start (start + 1) ≡ other
-  unfolding told here coded coded_as marked after_other if◌then◌else◌
+  unfolding told here coded coded_as marked after_other when◌then◌else◌
   is-line e = rw e
 
   pub is-colon : first ≡ 58 → Took Colon start (start + 1) ≡ other
-  unfolding told here coded coded_as marked after_other if◌then◌else◌
+  unfolding told here coded coded_as marked after_other when◌then◌else◌
   is-colon e = rw e
 
   pub is-comment : first ≡ 59 → told s start (after_semicolon rest) ≡ other
-  unfolding after_other after_semicolon if◌then◌else◌
+  unfolding after_other after_semicolon when◌then◌else◌
   is-comment e = rw e
 
   pub is-quote : first ≡ 34 → told s start (after_quote rest) ≡ other
-  unfolding after_other if◌then◌else◌
+  unfolding after_other when◌then◌else◌
   is-quote e = rw e
 
   pub is-return : first ≡ 13 → told s start (after_return rest) ≡ other
-  unfolding after_other after_return space if◌then◌else◌
+  unfolding after_other after_return space when◌then◌else◌
   is-return e = rw e
 
   pub is-dot : {x : ℕ} → first ≡ 46 → x ≡ run_end class.Word s (start + 1) → Took Directive start x ≡ other
-  unfolding told here coded coded_as after_other directive_after if◌then◌else◌
+  unfolding told here coded coded_as after_other directive_after when◌then◌else◌
   is-dot e f = rw e (ap (Took Directive start) (f ∙ sym (word_end s start 1 (start + 1) refl)))
 
   pub is_none :
       space first ≡ false → (first ≡ 44 → ⊥) → (first ≡ 10 → ⊥) → (first ≡ 59 → ⊥) → (first ≡ 46 → ⊥) → (first ≡ 34 → ⊥) → (first ≡ 13 → ⊥) → (first ≡ 58 → ⊥)
       → Refused 10 start (start + 1) ≡ other
-  unfolding told here coded after_other if◌then◌else◌
+  unfolding told here coded after_other when◌then◌else◌
   is_none s a b c d e f g = rw (ne_eqb _ 46 d, ne_eqb _ 34 e, ne_eqb _ 58 g, ne_eqb _ 44 a, ne_eqb _ 59 c, ne_eqb _ 10 b, ne_eqb _ 13 f, s)
 
 -- spaces and tabs are skipped
 space-first : (c : ℕ) (s : List ℕ) → space c ≡ true → token_at c s ≡ match blank (1 + length (while space s))
-unfolding token_at digit letter upper space if◌then◌else◌
+unfolding token_at digit letter upper space when◌then◌else◌
 space-first c s e = go (eqb c 32) refl (eqb c 9) refl e
   where
     go : (a : Bool) → eqb c 32 ≡ a → (b : Bool) → eqb c 9 ≡ b → (a || b) ≡ true → token_at c s ≡ match blank (1 + length (while space s))
@@ -181,7 +181,7 @@ module _ (s : List ℕ) (at : ℕ) where
     next-told h e = e ∙ ap coded (sym (next_here s start h) ∙ ap (next_token s) p ∙ sym spaces)
 
     pub next-done : length s ≤ start → End start ≡ coded (next_token s at)
-    unfolding coded coded_as marked if◌then◌else◌
+    unfolding coded coded_as marked when◌then◌else◌
     next-done h = sym (ap coded (spaces ∙ ap (next_token s) (sym p) ∙ next-end s start h))
 
 -- each first byte, by places

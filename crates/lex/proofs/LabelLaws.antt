@@ -6,7 +6,7 @@ use mathlib.Core.Logic.{◌⊎◌, inl, inr, ⊎_elim}
 use native.Mathlib.Omega.{arith}
 use borrow.Author.Tests.{le-leb}
 use lib.ListN.{length}
-use Rattle.rules.specs.Base.{if◌then◌else◌, Outcome, ok, refused, span}
+use Rattle.rules.specs.Base.{when◌then◌else◌, Outcome, ok, refused, span}
 use Rattle.rules.specs.Tokens.{Token, mark, word, upper, token_in, next_token}
 use Rattle.rules.proofs.Next.{next-induction}
 use Rattle.rules.proofs.Bools.{never}
@@ -32,7 +32,7 @@ module _ (s : List ℕ) where
       i
 
   text-part : (a e : ℕ) → a ≤ e → e ≤ length s → label_text s a e ≡ part s a e
-  unfolding label_text if◌then◌else◌
+  unfolding label_text when◌then◌else◌
   text-part a e h k = rw (le-leb _ _ h, le-leb _ _ k)
 
   -- of each word that `next_token` finds, what `label_text` hands out is its text: in upper case the rule's word

@@ -8,7 +8,7 @@ use native.Mathlib.Omega.{arith}
 use lib.Dec.{leb, ltb}
 use borrow.Author.Tests.{ltb-false}
 use lib.ListN.{length, drop, get_or}
-use Rattle.rules.specs.Base.{if◌then◌else◌, Outcome, same}
+use Rattle.rules.specs.Base.{when◌then◌else◌, Outcome, same}
 use Rattle.rules.specs.Words.{Row, instructions}
 use Rattle.rules.specs.Tokens.{plus, minus, Kind, number, register, mark, word, directive, text, Found, token, blank, bad, Match, match, Form, while, wordy, value, digits, read, dec, dec_neg, hex, hex_neg, reg, number_after, wrong_after, word_at, directive_after, after_hash, after_minus, after_x, after_r, Quoted, open', closed, quoted, line, after_quote, token_at, next_token}
 use Rattle.rules.specs.Tokens as tokens
@@ -43,13 +43,13 @@ record Gentle (f : Form) : Type 0 where
 
 module _ (f : Form) (g : Gentle f) where
   digits-mild : (n : ℕ) → n ≤ f.bound → (s : List ℕ) → Mild (digits f n s)
-  unfolding digits if◌then◌else◌
+  unfolding digits when◌then◌else◌
   digits-mild n l [] = g.kinds n l
   digits-mild n l (c ∷ s) =
       either Mild (leb f.base (value c)) g.wrong
       (go (ltb f.bound (n * f.base + value c)) refl (λ (h : n * f.base + value c ≤ f.bound). digits-mild (n * f.base + value c) h s))
     where
-      go : (b : Bool) → ltb f.bound (n * f.base + value c) ≡ b → (n * f.base + value c ≤ f.bound → Mild (digits f (n * f.base + value c) s)) → Mild (if b then bad f.over else digits f (n * f.base + value c) s)
+      go : (b : Bool) → ltb f.bound (n * f.base + value c) ≡ b → (n * f.base + value c ≤ f.bound → Mild (digits f (n * f.base + value c) s)) → Mild (when b then bad f.over else digits f (n * f.base + value c) s)
       go true e ih = g.over
       go false e ih = ih (ltb-false _ _ e)
 
@@ -118,7 +118,7 @@ module _ (c : ℕ) (s : List ℕ) where
   unfolding after_quote
   quote-calm = go (quoted false (line s))
     where
-      go : (q : Quoted) → Calm (elim q [ open' ↦ match (bad 7) (1 + length (line s)) | closed t n ↦ match (if leb (length t) 65534 then token (text t) else bad 8) (1 + n) ])
+      go : (q : Quoted) → Calm (elim q [ open' ↦ match (bad 7) (1 + length (line s)) | closed t n ↦ match (when leb (length t) 65534 then token (text t) else bad 8) (1 + n) ])
       go open' = omega arith
       go (closed t n) = either Mild (leb (length t) 65534) tt (omega arith)
 
@@ -154,7 +154,7 @@ module _ (s : List ℕ) where
   Kept i o = Narrow (flat_next (coded o))
 
   kept-token : (k : Kind) (a e n : ℕ) (l : List ℕ) → Mild (token k) → Tells l n k → Narrow (flat_next (coded_as k a e))
-  unfolding coded_as marked if◌then◌else◌ ident_of
+  unfolding coded_as marked when◌then◌else◌ ident_of
   kept-token (number (plus x)) a e n l m t = record { known = omega arith; small = λ x. omega arith }
   kept-token (number (minus x)) a e n l m t = record { known = omega arith; small = λ x. omega arith }
   kept-token (register x) a e n l m t = record { known = omega arith; small = λ y. m }
@@ -169,7 +169,7 @@ module _ (s : List ℕ) where
   calm-at i n f e = subst Calm e (token-calm (get_or s i 0) (drop (i + 1) s))
 
   pub next-narrow : (at : ℕ) → Narrow (flat_next (coded (next_token s at)))
-  unfolding coded coded_as marked if◌then◌else◌
+  unfolding coded coded_as marked when◌then◌else◌
   next-narrow at =
       next-induction s Kept
       (λ i h. record { known = omega arith; small = λ x. omega arith })

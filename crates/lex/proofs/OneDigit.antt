@@ -7,7 +7,7 @@ use native.Mathlib.Omega.{arith}
 use borrow.Author.Tests.{le-leb, lt-leb, le-ltb, lt-ltb, ltb-false}
 use lib.Dec.{leb, ltb}
 use lib.ListN.{get_or}
-use Rattle.rules.specs.Base.{if◌then◌else◌}
+use Rattle.rules.specs.Base.{when◌then◌else◌}
 use Rattle.rules.specs.Tokens.{match, token, register, digit, letter, wordy, value, while, begins, reg, digits, read, number_after, after_r}
 use Rattle.rules.proofs.While.{yes-cons, no-cons}
 use Rattle.rules.proofs.Bytes.{value-digit}
@@ -24,26 +24,26 @@ pub record Short (c d n : ℕ) : Type 0 where
 -- the tests for it
 module _ (s : List ℕ) (i : ℕ) {c : ℕ} (p : c ≡ get_or s i 0) where
   pub short-low : c < 48 → 8 ≡ short_register s i
-  unfolding short_register if◌then◌else◌
+  unfolding short_register when◌then◌else◌
   short-low h = sym (rw (← p, lt-ltb c 48 h))
 
   module _ (l : 48 ≤ c) where
     pub short-high : 55 < c → 8 ≡ short_register s i
-    unfolding short_register if◌then◌else◌
+    unfolding short_register when◌then◌else◌
     short-high h = sym (rw (← p, le-ltb c 48 l, lt-ltb 55 c h))
 
     module _ (h : c ≤ 55) {d : ℕ} {t : Bool} (q : d ≡ get_or s (i + 1) 0) (w : t ≡ wordy d) where
       pub short-word : t ≡ true → 8 ≡ short_register s i
-      unfolding short_register if◌then◌else◌
+      unfolding short_register when◌then◌else◌
       short-word y = sym (rw (← p, le-ltb c 48 l, le-ltb 55 c h, ← q, ← w, y))
 
       pub short-digit : t ≡ false → c - 48 ≡ short_register s i
-      unfolding short_register if◌then◌else◌
+      unfolding short_register when◌then◌else◌
       short-digit y = sym (rw (← p, le-ltb c 48 l, le-ltb 55 c h, ← q, ← w, y))
 
 -- a number below 8 is that of one
 pub short-is : (s : List ℕ) (i n : ℕ) → n ≡ short_register s i → n < 8 → Short (get_or s i 0) (get_or s (i + 1) 0) n
-unfolding short_register if◌then◌else◌
+unfolding short_register when◌then◌else◌
 short-is s i n p h = go (ltb c 48) refl (ltb 55 c) refl (wordy d) refl p
   where
     c : ℕ
@@ -52,7 +52,7 @@ short-is s i n p h = go (ltb c 48) refl (ltb 55 c) refl (wordy d) refl p
     d : ℕ
     d = get_or s (i + 1) 0
 
-    go : (x : Bool) → ltb c 48 ≡ x → (y : Bool) → ltb 55 c ≡ y → (z : Bool) → wordy d ≡ z → n ≡ (if x then 8 else if y then 8 else if z then 8 else c - 48) → Short c d n
+    go : (x : Bool) → ltb c 48 ≡ x → (y : Bool) → ltb 55 c ≡ y → (z : Bool) → wordy d ≡ z → n ≡ (when x then 8 else when y then 8 else when z then 8 else c - 48) → Short c d n
     go true a y b z w e = absurd (omega arith)
     go false a true b z w e = absurd (omega arith)
     go false a false b true w e = absurd (omega arith)
@@ -81,7 +81,7 @@ no_digit c e = go (digit c) (letter c) e
     go false y e = refl
 
 short-read : (c : ℕ) → 48 ≤ c → c ≤ 55 → read reg (c ∷ []) ≡ token (register (c - 48))
-unfolding reg read digits if◌then◌else◌
+unfolding reg read digits when◌then◌else◌
 short-read c a b =
     let v : value c ≡ c - 48 = sym (value-digit c a (omega arith)) in
     let x : leb 10 (c - 48) ≡ false = lt-leb 10 (c - 48) (omega arith) in
@@ -90,7 +90,7 @@ short-read c a b =
     rw (v, x, z, y)
 
 pub short-after : (r c : ℕ) (l : List ℕ) → 48 ≤ c → c ≤ 55 → begins wordy l ≡ false → begins digit l ≡ false → after_r r (c ∷ l) ≡ match (token (register (c - 48))) 2
-unfolding after_r number_after if◌then◌else◌
+unfolding after_r number_after when◌then◌else◌
 short-after r c l a b w d =
     let g : digit c ≡ true = digit-short c a b in
     let f : begins digit (c ∷ l) ≡ true = begins-with digit c l g in

@@ -8,7 +8,7 @@ use native.Mathlib.Omega.{arith}
 use borrow.Author.Tests.{eqb-true, ltb-true, ltb-false}
 use lib.Dec.{eqb, leb, ltb}
 use lib.ListN.{length, get_or, drop}
-use Rattle.rules.specs.Base.{if◌then◌else◌, is, Outcome, ok, span}
+use Rattle.rules.specs.Base.{when◌then◌else◌, is, Outcome, ok, span}
 use Rattle.rules.specs.Tokens.{Kind, number, register, mark, word, directive, text, Found, token, blank, bad, Match, match, Form, while, digit, letter, space, wordy, upper, value, begins, digits, read, dec, dec_neg, hex, hex_neg, reg, number_after, wrong_after, word_at, directive_after, after_hash, after_minus, after_x, after_r, Quoted, open', closed, quoted, line, after_quote, token_at, token_in, next_token}
 use Rattle.rules.specs.Statements.{is_mark, token_is, stop_at}
 use Rattle.rules.proofs.Ahead.{is-token, is-refused, stop-token}
@@ -43,7 +43,7 @@ by-alone P x y z c e = go (eqb c 58) (eqb c 44) (eqb c 10) refl refl refl e
     go false false false p q r e = never cc
 
 alone-token : (s : List ℕ) (c : ℕ) → alone c ≡ true → token_at c s ≡ match (token (mark c)) 1
-unfolding token_at digit letter upper if◌then◌else◌
+unfolding token_at digit letter upper when◌then◌else◌
 alone-token s = by-alone (λ c. token_at c s ≡ match (token (mark c)) 1) refl refl refl
 
 alone-inside : (c : ℕ) → alone c ≡ true → 0 < c
@@ -136,7 +136,7 @@ module _ (c : ℕ) where
   unfolding after_quote
   quote-fits s = go (quoted false (line s))
     where
-      go : (q : Quoted) → Fits (elim q [ open' ↦ match (bad 7) (1 + length (line s)) | closed t n ↦ match (if leb (length t) 65534 then token (text t) else bad 8) (1 + n) ])
+      go : (q : Quoted) → Fits (elim q [ open' ↦ match (bad 7) (1 + length (line s)) | closed t n ↦ match (when leb (length t) 65534 then token (text t) else bad 8) (1 + n) ])
       go open' = tt
       go (closed t n) = either (First c) (leb (length t) 65534) tt tt
 
@@ -191,7 +191,7 @@ module _ (s : List ℕ) (at p : ℕ) (e : p ≡ run_end class.Space s at) (c : �
     end = run_end class.Line s (p + 1)
 
     behind-comment : c ≡ 59 → m ≡ 10
-    unfolding token_at after_semicolon digit letter upper if◌then◌else◌ from
+    unfolding token_at after_semicolon digit letter upper when◌then◌else◌ from
     behind-comment z = go (ltb end (length s)) refl
       where
         on : next_token s at ≡ next_token s end

@@ -8,7 +8,7 @@ use native.Mathlib.Nat.{sub-zero}
 use native.Mathlib.Omega.{arith}
 use lib.ListN.{length, take, drop, get_or, length-drop, length-map}
 use lib.Seq.{length-take-le}
-use Rattle.rules.specs.Base.{if◌then◌else◌, ok, span, same}
+use Rattle.rules.specs.Base.{when◌then◌else◌, ok, span, same}
 use Rattle.rules.specs.Tokens.{word, upper, token_in, next_token}
 use Rattle.rules.specs.Words.{Row, find, instructions}
 use Rattle.rules.specs.Statements.{is_mark}
@@ -30,11 +30,11 @@ use Rattle.lex.specs.Sorts.{name_of, kind_by, no_row, Stands}
 
 -- the row of a word is the row of its code
 no-row : (k : ℕ) (w : List ℕ) (rs : List Row) → place_from k w rs ≡ Label → find w rs ≡ none
-unfolding place_from find if◌then◌else◌
+unfolding place_from find when◌then◌else◌
 no-row k w [] e = refl
 no-row k w (r ∷ rs) e = go (same w r.key) e (no-row (k + 1) w rs)
   where
-    go : (b : Bool) → (if b then Reserved k else place_from (k + 1) w rs) ≡ Label → (place_from (k + 1) w rs ≡ Label → find w rs ≡ none) → ◌≡◌ {A = Option Row} (elim b [ true ↦ some r | false ↦ find w rs ]) none
+    go : (b : Bool) → (when b then Reserved k else place_from (k + 1) w rs) ≡ Label → (place_from (k + 1) w rs ≡ Label → find w rs ≡ none) → ◌≡◌ {A = Option Row} (elim b [ true ↦ some r | false ↦ find w rs ]) none
     go true q ih = never cc
     go false q ih = ih q
 
@@ -44,11 +44,11 @@ record Placed (k j : ℕ) (w : List ℕ) (rs : List Row) : Type 0 where
   pub row : find w rs ≡ some (get_or rs (j - k) no_row)
 
 a-row : (k j : ℕ) (w : List ℕ) (rs : List Row) → place_from k w rs ≡ Reserved j → Placed k j w rs
-unfolding place_from find if◌then◌else◌
+unfolding place_from find when◌then◌else◌
 a-row k j w [] e = never cc
 a-row k j w (r ∷ rs) e = go (same w r.key) refl e (a-row (k + 1) j w rs)
   where
-    go : (b : Bool) → same w r.key ≡ b → (if b then Reserved k else place_from (k + 1) w rs) ≡ Reserved j → (place_from (k + 1) w rs ≡ Reserved j → Placed (k + 1) j w rs) → Placed k j w (r ∷ rs)
+    go : (b : Bool) → same w r.key ≡ b → (when b then Reserved k else place_from (k + 1) w rs) ≡ Reserved j → (place_from (k + 1) w rs ≡ Reserved j → Placed (k + 1) j w rs) → Placed k j w (r ∷ rs)
     go true b q ih =
         let e : k ≡ j = cc in
         let z : j - k ≡ 0 = omega arith in

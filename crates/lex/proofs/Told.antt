@@ -8,7 +8,7 @@ use borrow.Author.Tests.{eq-eqb, ne_eqb, le-leb, lt-leb, le-ltb, lt-ltb, not-fal
 use lib.Dec.{eqb, leb, ltb}
 use lib.ListN.{length, get_or, take, drop, length-drop}
 use lib.Seq.{drop-drop}
-use Rattle.rules.specs.Base.{if◌then◌else◌, ok, span}
+use Rattle.rules.specs.Base.{when◌then◌else◌, ok, span}
 use Rattle.rules.specs.Tokens.{Match, match, token, mark, register, bad, text, digit, letter, wordy, upper, value, while, begins, dec, dec_neg, hex, hex_neg, reg, number_after, wrong_after, word_at, after_hash, after_minus, after_x, after_r, Quoted, open', closed, quoted, line, after_quote, token_at, token_in, next_token}
 use Rattle.rules.proofs.While.{yes-cons, no-cons}
 use Rattle.rules.proofs.Sizes.{while-short}
@@ -103,7 +103,7 @@ module _ (s : List ℕ) (start : ℕ) (h : start < length s) where
     run_long = sym p
 
     pub r-alone : e ≤ start + 1 → told_as (word_at (from s start)) ≡ told_as (after_r first rest)
-    unfolding after_r if◌then◌else◌
+    unfolding after_r when◌then◌else◌
     r-alone k = sym (ap told_as (rw (begins-none digit rest (omega (arith, run_long)), word-here)))
 
     module _ {b : ℕ} {t : Bool} (k : start + 1 < e) (q : b ≡ get_or s e 0) (w : t ≡ wordy b) where
@@ -112,11 +112,11 @@ module _ (s : List ℕ) (start : ℕ) (h : start < length s) where
       after = rw (drop-from s (length (while digit rest)) (start + 1) e run_long, begins-at wordy refl s e) (sym (w ∙ ap wordy q))
 
       pub r-word : t ≡ true → told_as (word_at (from s start)) ≡ told_as (after_r first rest)
-      unfolding after_r if◌then◌else◌
+      unfolding after_r when◌then◌else◌
       r-word y = sym (ap told_as (rw (begins-some digit rest (omega (arith, run_long)), after, y, word-here)))
 
       pub r-reg : t ≡ false → told_as (number_after 1 reg rest) ≡ told_as (after_r first rest)
-      unfolding after_r if◌then◌else◌
+      unfolding after_r when◌then◌else◌
       r-reg y = sym (ap told_as (rw (begins-some digit rest (omega (arith, run_long)), after, y)))
 
   -- the byte after the first
@@ -132,34 +132,34 @@ module _ (s : List ℕ) (start : ℕ) (h : start < length s) where
 
     -- x
     pub x-minus : b ≡ 45 → told_as (number_after 2 hex_neg (from s (start + 2))) ≡ told_as (after_x first rest)
-    unfolding after_x if◌then◌else◌
+    unfolding after_x when◌then◌else◌
     x-minus e = sym (ap told_as (rw (second 45 (omega arith), eq-eqb b 45 e, past-second)))
 
     module _ {v : ℕ} (n : b ≡ 45 → ⊥) (f : v ≡ value b) where
       low : begins (λ d. ltb (value d) 16) rest ≡ ltb v 16
-      unfolding value digit upper if◌then◌else◌
+      unfolding value digit upper when◌then◌else◌
       low = begins-at (λ d. ltb (value d) 16) refl s (start + 1) ∙ ap (λ (x : ℕ). ltb x 16) (ap value (sym q) ∙ sym f)
 
       pub x-digit : v < 16 → told_as (number_after 1 hex rest) ≡ told_as (after_x first rest)
-      unfolding after_x if◌then◌else◌
+      unfolding after_x when◌then◌else◌
       x-digit l = sym (ap told_as (rw (second 45 (omega arith), ne_eqb b 45 n, low, lt-ltb v 16 l)))
 
       pub x-word : 16 ≤ v → told_as (word_at (from s start)) ≡ told_as (after_x first rest)
-      unfolding after_x if◌then◌else◌
+      unfolding after_x when◌then◌else◌
       x-word l = sym (ap told_as (rw (second 45 (omega arith), ne_eqb b 45 n, low, le-ltb v 16 l, word-here)))
 
     -- #
     pub hash-minus : b ≡ 45 → told_as (number_after 2 dec_neg (from s (start + 2))) ≡ told_as (after_hash rest)
-    unfolding after_hash if◌then◌else◌
+    unfolding after_hash when◌then◌else◌
     hash-minus e = sym (ap told_as (rw (second 45 (omega arith), eq-eqb b 45 e, past-second)))
 
     pub hash-plain : (b ≡ 45 → ⊥) → (b ≡ 35 → ⊥) → told_as (number_after 1 dec rest) ≡ told_as (after_hash rest)
-    unfolding after_hash if◌then◌else◌
+    unfolding after_hash when◌then◌else◌
     hash-plain n m = sym (ap told_as (rw (second 45 (omega arith), ne_eqb b 45 n, while-none (λ d. eqb d 35) rest (second 35 (omega arith) ∙ ne_eqb b 35 m))))
 
     -- -
     pub minus-plain : (b ≡ 35 → ⊥) → told_as (number_after 1 dec_neg rest) ≡ told_as (after_minus rest)
-    unfolding after_minus if◌then◌else◌
+    unfolding after_minus when◌then◌else◌
     minus-plain m = sym (ap told_as (rw (while-none (λ d. eqb d 35) rest (second 35 (omega arith) ∙ ne_eqb b 35 m))))
 
     wrong-told : (n at : ℕ) {x : ℕ} → start + n ≡ at → x ≡ run_end class.Word s at → Refused 4 start x ≡ told_as (wrong_after n (from s at))
@@ -181,7 +181,7 @@ module _ (s : List ℕ) (start : ℕ) (h : start < length s) where
       past = drop-from s hashes (start + 1) k hash-long
 
       pub minus-hash : {x : ℕ} → x ≡ run_end class.Word s k → Refused 4 start x ≡ told_as (after_minus rest)
-      unfolding after_minus if◌then◌else◌
+      unfolding after_minus when◌then◌else◌
       minus-hash f = wrong-told (hashes + 1) k (omega (arith, hash-long)) f ∙ sym (ap told_as (rw (some, past)))
 
       module _ {d : ℕ} (n : b ≡ 45 → ⊥) (g : d ≡ get_or s k 0) where
@@ -189,29 +189,29 @@ module _ (s : List ℕ) (start : ℕ) (h : start < length s) where
         minus-then = rw past (begins-at (λ d. eqb d 45) refl s k ∙ ap (λ (x : ℕ). eqb x 45) (sym g))
 
         pub hash-hash-minus : {x : ℕ} → d ≡ 45 → x ≡ run_end class.Word s (k + 1) → Refused 4 start x ≡ told_as (after_hash rest)
-        unfolding after_hash if◌then◌else◌
+        unfolding after_hash when◌then◌else◌
         hash-hash-minus m f =
             wrong-told (hashes + 2) (k + 1) (omega (arith, hash-long)) f
             ∙ sym (ap told_as (rw (second 45 (omega arith), ne_eqb b 45 n, some, minus-then, eq-eqb d 45 m, drop-from s (hashes + 1) (start + 1) (k + 1) (omega (arith, hash-long)))))
 
         pub hash-hash : {x : ℕ} → (d ≡ 45 → ⊥) → x ≡ run_end class.Word s k → Refused 4 start x ≡ told_as (after_hash rest)
-        unfolding after_hash if◌then◌else◌
+        unfolding after_hash when◌then◌else◌
         hash-hash m f =
             wrong-told (hashes + 1) k (omega (arith, hash-long)) f
             ∙ sym (ap told_as (rw (second 45 (omega arith), ne_eqb b 45 n, some, minus-then, ne_eqb d 45 m, past)))
 
     -- a carriage return
     pub return-line : b ≡ 10 → Took NewLine start (start + 2) ≡ told_as (after_return rest)
-    unfolding told here coded coded_as marked after_return if◌then◌else◌
+    unfolding told here coded coded_as marked after_return when◌then◌else◌
     return-line e = sym (rw (second 10 (omega arith), eq-eqb b 10 e))
 
     pub return_alone : (b ≡ 10 → ⊥) → Refused 10 start (start + 1) ≡ told_as (after_return rest)
-    unfolding told here coded after_return if◌then◌else◌
+    unfolding told here coded after_return when◌then◌else◌
     return_alone n = sym (rw (second 10 (omega arith), ne_eqb b 10 n))
 
   -- a string
   abbrev shown : Quoted → Next
-  shown q = told s start (elim q [ open' ↦ match (bad 7) (1 + length (line rest)) | closed t n ↦ match (if leb (length t) 65534 then token (text t) else bad 8) (1 + n) ])
+  shown q = told s start (elim q [ open' ↦ match (bad 7) (1 + length (line rest)) | closed t n ↦ match (when leb (length t) 65534 then token (text t) else bad 8) (1 + n) ])
 
   module _ {n e : ℕ} (p : Closed n e ≡ scan false 0 (start + 1) rest) where
     by-closed : (r : Next) → ((t : List ℕ) (m : ℕ) → n ≡ length t → e ≡ start + (1 + m) → r ≡ shown (closed t m)) → r ≡ told_as (after_quote rest)
@@ -226,11 +226,11 @@ module _ (s : List ℕ) (start : ℕ) (h : start < length s) where
             f t m (omega arith) (omega arith)
 
     pub quote-took : n ≤ 65534 → Took String start e ≡ told_as (after_quote rest)
-    unfolding told here coded coded_as if◌then◌else◌
+    unfolding told here coded coded_as when◌then◌else◌
     quote-took l = by-closed _ (λ t m a b. let k : length t ≤ 65534 = omega arith in rw (le-leb _ _ k) (ap (Took String start) b))
 
     pub quote-big : 65534 < n → Refused 8 start e ≡ told_as (after_quote rest)
-    unfolding told here coded if◌then◌else◌
+    unfolding told here coded when◌then◌else◌
     quote-big l = by-closed _ (λ t m a b. let k : 65534 < length t = omega arith in rw (lt-leb _ _ k) (ap (Refused 8 start) b))
 
   pub quote-open : {e : ℕ} → Open e ≡ scan false 0 (start + 1) rest → Refused 7 start e ≡ told_as (after_quote rest)
@@ -261,13 +261,13 @@ module _ (s : List ℕ) (start : ℕ) (h : start < length s) where
     line-feed l = eqb-true (get_or s e 0) 10 (not-false (eqb (get_or s e 0) 10) (rw (← p) at (run-stops class.Line s (start + 1) (rw (← p) l))))
 
     pub next-line : e < length s → next_token s e ≡ ok (token_in (mark 10) (span e (e + 1)))
-    unfolding here token_at digit letter upper if◌then◌else◌
+    unfolding here token_at digit letter upper when◌then◌else◌
     next-line l = next_here s e l ∙ rw (line-feed l)
 
     pub comment-line : e < length s → Took NewLine e (e + 1) ≡ told_as (after_semicolon rest)
-    unfolding coded coded_as marked if◌then◌else◌
+    unfolding coded coded_as marked when◌then◌else◌
     comment-line l = sym (past-comment ∙ ap coded (next-line l))
 
     pub comment-end : length s ≤ e → End e ≡ told_as (after_semicolon rest)
-    unfolding coded coded_as marked if◌then◌else◌
+    unfolding coded coded_as marked when◌then◌else◌
     comment-end l = sym (past-comment ∙ ap coded (next-end s e l))

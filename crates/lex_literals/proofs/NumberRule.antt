@@ -8,7 +8,7 @@ use native.Mathlib.Omega.{arith}
 use borrow.Author.Tests.{ltb-true, ltb-false, leb-true, leb-false, le-leb, eqb-true, eq-eqb, ne_eqb}
 use lib.Dec.{eqb, leb, ltb}
 use lib.ListN.{length, get_or}
-use Rattle.rules.specs.Base.{if◌then◌else◌, within}
+use Rattle.rules.specs.Base.{when◌then◌else◌, within}
 use Rattle.rules.specs.Tokens.{Form, digit, letter, wordy, upper, value, while, digits, read}
 use Rattle.rules.proofs.While.{yes-cons, no-cons}
 use Rattle.rules.proofs.Sizes.{small, digit-wordy, letter-wordy}
@@ -30,18 +30,18 @@ low-letter c e =
     rw (le-leb 65 c l, le-leb c 90 k)
 
 hex-letter : (c : ℕ) → within "A" "F" (upper c) ≡ true → letter c ≡ true
-unfolding upper if◌then◌else◌
+unfolding upper when◌then◌else◌
 hex-letter c e = go (within "a" "z" c) refl e
   where
-    go : (b : Bool) → within "a" "z" c ≡ b → within "A" "F" (if b then c - 32 else c) ≡ true → letter c ≡ true
+    go : (b : Bool) → within "a" "z" c ≡ b → within "A" "F" (when b then c - 32 else c) ≡ true → letter c ≡ true
     go true w e = small c w
     go false w e = low-letter c e
 
 value-wordy : (c : ℕ) → value c < 16 → wordy c ≡ true
-unfolding value if◌then◌else◌
+unfolding value when◌then◌else◌
 value-wordy c h = go (digit c) refl (within "A" "F" (upper c)) refl h
   where
-    go : (d : Bool) → digit c ≡ d → (x : Bool) → within "A" "F" (upper c) ≡ x → (if d then c - 48 else if x then upper c - 55 else 99) < 16 → wordy c ≡ true
+    go : (d : Bool) → digit c ≡ d → (x : Bool) → within "A" "F" (upper c) ≡ x → (when d then c - 48 else when x then upper c - 55 else 99) < 16 → wordy c ≡ true
     go true e x f h = digit-wordy c e
     go false e true f h = letter-wordy c (hex-letter c f)
     go false e false f h = absurd (omega arith)
@@ -55,28 +55,28 @@ module _ (f : Form) (small : f.base ≤ 16) (at : ℕ) where
   digit-in c e = let h : value c < f.base = leb-false _ _ e in value-wordy c (omega arith)
 
   later : (i n : ℕ) (l : List ℕ) → at < i → meant_by f (from' i n l) ≡ digits f n (while wordy l)
-  unfolding number_from meant_by digits stopped while if◌then◌else◌
+  unfolding number_from meant_by digits stopped while when◌then◌else◌
   later i n [] h = let k : i ≡ at → ⊥ = λ e. omega arith in rw (ne_eqb i at k)
   later i n (c ∷ l) h = go (leb f.base (value c)) refl (wordy c) refl (ltb f.bound (n * f.base + value c)) refl (later (i + 1) (n * f.base + value c) l (omega arith))
     where
       go :
           (b : Bool) → leb f.base (value c) ≡ b → (w : Bool) → wordy c ≡ w → (o : Bool) → ltb f.bound (n * f.base + value c) ≡ o
           → meant_by f (from' (i + 1) (n * f.base + value c) l) ≡ digits f (n * f.base + value c) (while wordy l)
-          → meant_by f (if b then (if w then Wrong i else stopped at i n) else if o then Over i else from' (i + 1) (n * f.base + value c) l) ≡ digits f n (while wordy (c ∷ l))
+          → meant_by f (when b then (when w then Wrong i else stopped at i n) else when o then Over i else from' (i + 1) (n * f.base + value c) l) ≡ digits f n (while wordy (c ∷ l))
       go true b true w o v r = rw (yes-cons wordy c l w, b)
       go true b false w o v r = let k : i ≡ at → ⊥ = λ e. omega arith in rw (no-cons wordy c l w, ne_eqb i at k)
       go false b w e true v r = rw (yes-cons wordy c l (digit-in c b), b, v)
       go false b w e false v r = rw (yes-cons wordy c l (digit-in c b), b, v) r
 
   pub number-means : (l : List ℕ) → meant_by f (from' at 0 l) ≡ read f (while wordy l)
-  unfolding number_from meant_by digits read stopped while if◌then◌else◌
+  unfolding number_from meant_by digits read stopped while when◌then◌else◌
   number-means [] = rw (eq-eqb at at refl)
   number-means (c ∷ l) = go (leb f.base (value c)) refl (wordy c) refl (ltb f.bound (0 * f.base + value c)) refl (later (at + 1) (0 * f.base + value c) l (omega arith))
     where
       go :
           (b : Bool) → leb f.base (value c) ≡ b → (w : Bool) → wordy c ≡ w → (o : Bool) → ltb f.bound (0 * f.base + value c) ≡ o
           → meant_by f (from' (at + 1) (0 * f.base + value c) l) ≡ digits f (0 * f.base + value c) (while wordy l)
-          → meant_by f (if b then (if w then Wrong at else stopped at at 0) else if o then Over at else from' (at + 1) (0 * f.base + value c) l) ≡ read f (while wordy (c ∷ l))
+          → meant_by f (when b then (when w then Wrong at else stopped at at 0) else when o then Over at else from' (at + 1) (0 * f.base + value c) l) ≡ read f (while wordy (c ∷ l))
       go true b true w o v r = rw (yes-cons wordy c l w, b)
       go true b false w o v r = rw (no-cons wordy c l w, eq-eqb at at refl)
       go false b w e true v r = rw (yes-cons wordy c l (digit-in c b), b, v)
@@ -91,22 +91,22 @@ Ends s at bound x (Over i) = run_end class.Word s i ≡ x
 
 module _ (s : List ℕ) (base bound at : ℕ) (small : base ≤ 16) where
   stop-ends : (i n x : ℕ) → i ≡ x → n ≤ bound → Ends s at bound x (stopped at i n)
-  unfolding stopped if◌then◌else◌
+  unfolding stopped when◌then◌else◌
   stop-ends i n x e h = go (eqb i at) refl
     where
-      go : (b : Bool) → eqb i at ≡ b → Ends s at bound x (if b then Empty else Good n i)
+      go : (b : Bool) → eqb i at ≡ b → Ends s at bound x (when b then Empty else Good n i)
       go true b = sym (eqb-true i at b) ∙ e
       go false b = (e, h)
 
   ends-from : (room i n : ℕ) → length s - i < room → n ≤ bound → Ends s at bound (run_end class.Word s i) (number_from base bound at i n (from s i))
-  unfolding number_from in_class if◌then◌else◌
+  unfolding number_from in_class when◌then◌else◌
   ends-from zero i n r h = absurd (not-suc-le-zero r)
   ends-from (suc room) i n r h = go (ltb i (length s)) refl (λ m q k. ends-from room (i + 1) m (omega arith) k)
     where
       one : (c : ℕ) (l : List ℕ) (b : Bool) → leb base (value c) ≡ b → (w : Bool) → wordy c ≡ w → (o : Bool) → ltb bound (n * base + value c) ≡ o
           → (w ≡ false → i ≡ run_end class.Word s i)
           → (wordy c ≡ true → n * base + value c ≤ bound → Ends s at bound (run_end class.Word s i) (number_from base bound at (i + 1) (n * base + value c) l))
-          → Ends s at bound (run_end class.Word s i) (if b then (if w then Wrong i else stopped at i n) else if o then Over i else number_from base bound at (i + 1) (n * base + value c) l)
+          → Ends s at bound (run_end class.Word s i) (when b then (when w then Wrong i else stopped at i n) else when o then Over i else number_from base bound at (i + 1) (n * base + value c) l)
       one c l true b true w o v p q = refl
       one c l true b false w o v p q = stop-ends i n (run_end class.Word s i) (p refl) h
       one c l false b w e true v p q = refl

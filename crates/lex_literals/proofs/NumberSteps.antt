@@ -8,7 +8,7 @@ use native.Mathlib.Omega.{arith}
 use borrow.Author.Tests.{lt-ltb, le-leb, lt-leb, ltb-true, ltb-false}
 use lib.Dec.{ltb}
 use lib.ListN.{length, get_or}
-use Rattle.rules.specs.Base.{if◌then◌else◌}
+use Rattle.rules.specs.Base.{when◌then◌else◌}
 use Rattle.rules.specs.Tokens.{wordy, value}
 use Rattle.rules.proofs.Bools.{and_left, and_right}
 use Rattle.base_text.specs.Runs.{from}
@@ -22,22 +22,22 @@ scaled a r h k = mul-le-mul h k
 
 module _ (base bound at n : ℕ) (s : List ℕ) {i v : ℕ} {z : Reading} (h : i < length s) (e : v ≡ value (get_or s i 0)) (g : number_from base bound at i n (from s i) ≡ z) where
   pub wrong-met : {t : Bool} → base ≤ v → t ≡ wordy (get_or s i 0) → t ≡ true → Wrong i ≡ z
-  unfolding number_from if◌then◌else◌
+  unfolding number_from when◌then◌else◌
   wrong-met b w t = sym (rw (from_step s i h, ← e, le-leb _ _ b, ← w, t)) ∙ g
 
   pub ends-met : {t : Bool} {r : Reading} → base ≤ v → t ≡ wordy (get_or s i 0) → t ≡ false → r ≡ stopped at i n → r ≡ z
-  unfolding number_from if◌then◌else◌
+  unfolding number_from when◌then◌else◌
   ends-met b w t r = r ∙ sym (rw (from_step s i h, ← e, le-leb _ _ b, ← w, t)) ∙ g
 
   module _ {t : Bool} (o : t ≡ (ltb v base && ltb bound (n * base + v))) where
     pub over-met : t ≡ true → Over i ≡ z
-    unfolding number_from if◌then◌else◌
+    unfolding number_from when◌then◌else◌
     over-met q =
         let b = ltb-true v base (and_left (ltb v base) (ltb bound (n * base + v)) (sym o ∙ q)) in
         sym (rw (from_step s i h, ← e, lt-leb _ _ b, and_right (ltb v base) (ltb bound (n * base + v)) (sym o ∙ q))) ∙ g
 
     pub number-again : t ≡ false → v < base → number_from base bound at (i + 1) (n * base + v) (from s (i + 1)) ≡ z
-    unfolding number_from if◌then◌else◌
+    unfolding number_from when◌then◌else◌
     number-again q b =
         let k : ltb bound (n * base + v) ≡ false = rw (lt-ltb _ _ b) at (sym o ∙ q) in
         sym (rw (from_step s i h, ← e, lt-leb _ _ b, k)) ∙ g

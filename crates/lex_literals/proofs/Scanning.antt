@@ -7,7 +7,7 @@ use native.Mathlib.Omega.{arith}
 use lib.Dec.{eqb}
 use lib.ListN.{length, drop, length-drop}
 use lib.Seq.{drop-drop}
-use Rattle.rules.specs.Base.{if◌then◌else◌}
+use Rattle.rules.specs.Base.{when◌then◌else◌}
 use Rattle.rules.specs.Tokens.{while, begins, escape}
 use Rattle.rules.proofs.Bools.{never}
 use Rattle.base_text.specs.Runs.{plain, in_class, from, run_end}
@@ -26,12 +26,12 @@ use Rattle.lex_literals.proofs.StringSteps.{size-le}
 
 -- one plain byte ends no line and no string, opens no escape and is one character
 plain-on : (n i c : ℕ) (l : List ℕ) → plain c ≡ true → scan false n i (c ∷ l) ≡ scan false (n + 1) (i + 1) l
-unfolding plain scan line_stops closes opens adds if◌then◌else◌
+unfolding plain scan line_stops closes opens adds when◌then◌else◌
 plain-on n i c l = go (eqb c 34) (eqb c 92) (eqb c 10) (eqb c 13)
   where
     go :
         (q b f r : Bool) → not (q || b || f || r) ≡ true
-        → (if f || (r && begins (λ d. eqb d 10) l) then Open i else if q then Closed n (i + 1) else scan b (n + (if b then 0 else 1)) (i + 1) l) ≡ scan false (n + 1) (i + 1) l
+        → (when f || (r && begins (λ d. eqb d 10) l) then Open i else when q then Closed n (i + 1) else scan b (n + (when b then 0 else 1)) (i + 1) l) ≡ scan false (n + 1) (i + 1) l
     go true b f r e = never cc
     go false true f r e = never cc
     go false false true r e = never cc
@@ -65,11 +65,11 @@ Meets s n i (Adds a k) = (scan false n i (from s i) ≡ scan false (n + a) k (fr
 
 module _ (s : List ℕ) (n i : ℕ) where
   meets-behind : (l : List ℕ) → from s (i + 1) ≡ l → scan false n i (from s i) ≡ scan true (n + 0) (i + 1) l → i < length s → Meets s n i (behind (i + 1) l)
-  unfolding behind scan closes opens adds if◌then◌else◌
+  unfolding behind scan closes opens adds when◌then◌else◌
   meets-behind [] e g h = g
   meets-behind (d ∷ l) e g h = go (line_stops d l) g
     where
-      go : (t : Bool) → scan false n i (from s i) ≡ (if t then Open (i + 1) else scan (opens true d) (n + 0 + adds true d) (i + 1 + 1) l) → Meets s n i (if t then Ends (i + 1) else Adds (length (escape d)) (i + 1 + 1))
+      go : (t : Bool) → scan false n i (from s i) ≡ (when t then Open (i + 1) else scan (opens true d) (n + 0 + adds true d) (i + 1 + 1) l) → Meets s n i (when t then Ends (i + 1) else Adds (length (escape d)) (i + 1 + 1))
       go true g = g
       go false g =
           let z : n + 0 ≡ n = omega arith in
@@ -77,7 +77,7 @@ module _ (s : List ℕ) (n i : ℕ) where
           (g ∙ rw (z, r), omega (arith, size-le d), omega arith, h)
 
   meets-special : Meets s n i (special i (from s i))
-  unfolding special scan line_stops closes opens adds from if◌then◌else◌
+  unfolding special scan line_stops closes opens adds from when◌then◌else◌
   meets-special = by-list (from s i) refl
     where
       by-list : (l : List ℕ) → from s i ≡ l → Meets s n i (special i l)
@@ -90,12 +90,12 @@ module _ (s : List ℕ) (n i : ℕ) where
           rest : from s (i + 1) ≡ l
           rest = from-rest s i c l e
 
-          by_byte : (q b : Bool) → scan false n i (from s i) ≡ (if q then Closed n (i + 1) else scan b (n + (if b then 0 else 1)) (i + 1) l) → Meets s n i (if q then Quote else if b then behind (i + 1) l else Adds 1 (i + 1))
+          by_byte : (q b : Bool) → scan false n i (from s i) ≡ (when q then Closed n (i + 1) else scan b (n + (when b then 0 else 1)) (i + 1) l) → Meets s n i (when q then Quote else when b then behind (i + 1) l else Adds 1 (i + 1))
           by_byte true b g = (g, inside)
           by_byte false true g = meets-behind l rest g inside
           by_byte false false g = (g ∙ rw rest, omega arith, omega arith, inside)
 
-          by-line : (t : Bool) → line_stops c l ≡ t → scan false n i (from s i) ≡ (if t then Open i else if eqb c 34 then Closed n (i + 1) else scan (eqb c 92) (n + (if eqb c 92 then 0 else 1)) (i + 1) l) → Meets s n i (if t then Ends i else if eqb c 34 then Quote else if eqb c 92 then behind (i + 1) l else Adds 1 (i + 1))
+          by-line : (t : Bool) → line_stops c l ≡ t → scan false n i (from s i) ≡ (when t then Open i else when eqb c 34 then Closed n (i + 1) else scan (eqb c 92) (n + (when eqb c 92 then 0 else 1)) (i + 1) l) → Meets s n i (when t then Ends i else when eqb c 34 then Quote else when eqb c 92 then behind (i + 1) l else Adds 1 (i + 1))
           by-line true u g = g
           by-line false u g = by_byte (eqb c 34) (eqb c 92) g
 

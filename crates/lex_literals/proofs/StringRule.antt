@@ -8,7 +8,7 @@ use native.Mathlib.Omega.{arith}
 use lib.Dec.{eqb}
 use lib.ListN.{length, drop, length-append}
 use lib.Seq.{drop-drop}
-use Rattle.rules.specs.Base.{if◌then◌else◌}
+use Rattle.rules.specs.Base.{when◌then◌else◌}
 use Rattle.rules.specs.Tokens.{begins, escape, Quoted, open', closed, put, quoted, line}
 use Rattle.rules.proofs.Bools.{never}
 use Rattle.base_text.specs.Runs.{from}
@@ -37,26 +37,26 @@ module _
     (c : ℕ) (n i : ℕ) (l : List ℕ)
     (again : (b : Bool) (m : ℕ) → scan b m (i + 1) l ≡ scanned m (i + 1) (length (line l)) (quoted b (line l)))
   where
-    plain : (q k : Bool) → (if q then Closed n (i + 1) else scan k (n + (if k then 0 else 1)) (i + 1) l) ≡ scanned n i (suc (length (line l))) (if q then closed [] 1 else if k then put [] (quoted true (line l)) else put (c ∷ []) (quoted false (line l)))
-    unfolding if◌then◌else◌ scanned
+    plain : (q k : Bool) → (when q then Closed n (i + 1) else scan k (n + (when k then 0 else 1)) (i + 1) l) ≡ scanned n i (suc (length (line l))) (when q then closed [] 1 else when k then put [] (quoted true (line l)) else put (c ∷ []) (quoted false (line l)))
+    unfolding when◌then◌else◌ scanned
     plain true k = ap (λ (m : ℕ). Closed m (i + 1)) (sym (add-zero n))
     plain false true = again true (n + 0) ∙ put-scanned n i (length (line l)) [] (quoted true (line l))
     plain false false = again false (n + 1) ∙ put-scanned n i (length (line l)) (c ∷ []) (quoted false (line l))
 
-    byte-means : (b : Bool) → (if closes b c then Closed n (i + 1) else scan (opens b c) (n + adds b c) (i + 1) l) ≡ scanned n i (suc (length (line l))) (quoted b (c ∷ line l))
-    unfolding quoted closes opens adds if◌then◌else◌
+    byte-means : (b : Bool) → (when closes b c then Closed n (i + 1) else scan (opens b c) (n + adds b c) (i + 1) l) ≡ scanned n i (suc (length (line l))) (quoted b (c ∷ line l))
+    unfolding quoted closes opens adds when◌then◌else◌
     byte-means true = again false (n + length (escape c)) ∙ put-scanned n i (length (line l)) (escape c) (quoted false (line l))
     byte-means false = plain (eqb c 34) (eqb c 92)
 
 pub scan-means : (b : Bool) (n i : ℕ) (l : List ℕ) → scan b n i l ≡ scanned n i (length (line l)) (quoted b (line l))
-unfolding scan scanned line quoted line_stops if◌then◌else◌
+unfolding scan scanned line quoted line_stops when◌then◌else◌
 scan-means b n i [] = ap Open (sym (add-zero i))
 scan-means b n i (c ∷ l) = go (eqb c 10 || (eqb c 13 && begins (λ d. eqb d 10) l)) (byte-means c n i l (λ b' m. scan-means b' m (i + 1) l) b)
   where
     go :
         (t : Bool)
-        → (if closes b c then Closed n (i + 1) else scan (opens b c) (n + adds b c) (i + 1) l) ≡ scanned n i (suc (length (line l))) (quoted b (c ∷ line l))
-        → (if t then Open i else if closes b c then Closed n (i + 1) else scan (opens b c) (n + adds b c) (i + 1) l)
+        → (when closes b c then Closed n (i + 1) else scan (opens b c) (n + adds b c) (i + 1) l) ≡ scanned n i (suc (length (line l))) (quoted b (c ∷ line l))
+        → (when t then Open i else when closes b c then Closed n (i + 1) else scan (opens b c) (n + adds b c) (i + 1) l)
         ≡ scanned n i (length {A = ℕ} (elim t [ true ↦ [] | false ↦ c ∷ line l ])) (quoted b (elim t [ true ↦ [] | false ↦ c ∷ line l ]))
     go true e = ap Open (sym (add-zero i))
     go false e = e
@@ -105,14 +105,14 @@ line_on c l e = go (line_stops c l) e
     go false e = refl
 
 quoted-plain : (c : ℕ) (l : List ℕ) → eqb c 34 ≡ false → eqb c 92 ≡ false → quoted false (c ∷ l) ≡ put (c ∷ []) (quoted false l)
-unfolding quoted if◌then◌else◌
+unfolding quoted when◌then◌else◌
 quoted-plain c l n m = rw (n, m)
 
 module _ (s : List ℕ) (at : ℕ) where
   -- a backslash, the byte d after it, and l after that
   module _ (d : ℕ) (l : List ℕ) (e : from s (at + 1) ≡ d ∷ l) (ends : line_stops d l ≡ false) where
-    escaped : (b : Bool) → is_escape d ≡ b → (q : Quoted) → quoted false (line l) ≡ q → Handed s at (put [] (put (if b then stands_for d ∷ [] else 92 ∷ d ∷ []) q)) (first_of at (if b then stands_for d ∷ [] else 92 ∷ d ∷ []))
-    unfolding put if◌then◌else◌
+    escaped : (b : Bool) → is_escape d ≡ b → (q : Quoted) → quoted false (line l) ≡ q → Handed s at (put [] (put (when b then stands_for d ∷ [] else 92 ∷ d ∷ []) q)) (first_of at (when b then stands_for d ∷ [] else 92 ∷ d ∷ []))
+    unfolding put when◌then◌else◌
     escaped true i open' p = tt
     escaped false i open' p = tt
     escaped true i (closed u m) p =
@@ -134,14 +134,14 @@ module _ (s : List ℕ) (at : ℕ) where
 
   -- each place inside a string hands out its next character
   pub char-handed : Handed s at (quoted false (line (from s at))) (char_at at (from s at))
-  unfolding quoted line char_at line_stops if◌then◌else◌
+  unfolding quoted line char_at line_stops when◌then◌else◌
   char-handed = by-list (from s at) refl
     where
       by-list : (l : List ℕ) → from s at ≡ l → Handed s at (quoted false (line l)) (char_at at l)
       by-list [] e = tt
       by-list (c ∷ l) e = by-line (line_stops c l)
         where
-          by_byte : (q k : Bool) → Handed s at (if q then closed [] 1 else if k then put [] (quoted true (line l)) else put (c ∷ []) (quoted false (line l))) (if q then Done else if k then after_backslash at l else Char c (at + 1))
+          by_byte : (q k : Bool) → Handed s at (when q then closed [] 1 else when k then put [] (quoted true (line l)) else put (c ∷ []) (quoted false (line l))) (when q then Done else when k then after_backslash at l else Char c (at + 1))
           by_byte true k = refl
           by_byte false true = back-handed l (from-rest s at c l e)
           by_byte false false = kept s at c (quoted false (line l)) (ap (λ (x : List ℕ). quoted false (line x)) (from-rest s at c l e))

@@ -8,7 +8,7 @@ use borrow.Author.Tests.{eqb-true, leb-true, eq-eqb, ne_eqb}
 use lib.Dec.{eqb, leb}
 use lib.ListN.{length, get_or, length-map}
 use lib.Seq.{length-take-le, get_or-take}
-use Rattle.rules.specs.Base.{if◌then◌else◌, same}
+use Rattle.rules.specs.Base.{when◌then◌else◌, same}
 use Rattle.rules.specs.Tokens.{upper}
 use Rattle.base_text.specs.Runs.{from}
 use Rattle.base_text.proofs.Rest.{from_step, from_end}
@@ -77,11 +77,11 @@ one_less i last h = omega arith
 
 module _ (w : List ℕ) {i last : ℕ} {z : Ident} where
   pub search-found : {t : Bool} {k : ℕ} → find_in (last - i) i w ≡ z → i < last → t ≡ same w (name_of (row i)) → t ≡ true → k ≡ get_or (row i) 6 0 → Reserved k ≡ z
-  unfolding find_in if◌then◌else◌
+  unfolding find_in when◌then◌else◌
   search-found g h e t k = rw (one_less i last h, ← e, t, ← k) at g
 
   pub search-again : {t : Bool} → find_in (last - i) i w ≡ z → i < last → t ≡ same w (name_of (row i)) → t ≡ false → find_in (last - (i + 1)) (i + 1) w ≡ z
-  unfolding find_in if◌then◌else◌
+  unfolding find_in when◌then◌else◌
   search-again g h e t = rw (one_less i last h, ← e, t) at g
 
   pub search-done : find_in (last - i) i w ≡ z → last ≤ i → Label ≡ z

@@ -8,7 +8,7 @@ use native.Mathlib.Omega.{arith}
 use borrow.Author.Tests.{leb-true, ltb-false, lt-ltb, le-ltb}
 use lib.Dec.{leb, ltb}
 use lib.ListN.{length, get_or, length-map}
-use Rattle.rules.specs.Base.{if◌then◌else◌, same}
+use Rattle.rules.specs.Base.{when◌then◌else◌, same}
 use Rattle.rules.specs.Tokens.{upper}
 use Rattle.rules.proofs.Run.{true_run}
 use Rattle.rules.specs.Words.{Row, instructions}
@@ -22,12 +22,12 @@ use Rattle.rules.proofs.Bools.{and_left, and_right}
 
 -- the computed test: each row's word is the instruction of its code
 each_row : map (λ (r : List ℕ). ident_of (name_of r)) words ≡ map (λ (r : List ℕ). Reserved (code_of r)) words
-unfolding words ident_of place_from instructions if◌then◌else◌
+unfolding words ident_of place_from instructions when◌then◌else◌
 each_row = refl
 
 -- the computed test: each instruction is found in the rows of its letter
 each-key : map (λ (r : Row). searched r.key) instructions ≡ map (λ (r : Row). ident_of r.key) instructions
-unfolding words starts row first_row find_in searched ident_of place_from instructions if◌then◌else◌
+unfolding words starts row first_row find_in searched ident_of place_from instructions when◌then◌else◌
 each-key = refl
 
 row-right : (i : ℕ) → i < 32 → ident_of (name_of (row i)) ≡ Reserved (code_of (row i))
@@ -39,11 +39,11 @@ abbrev Fine : List ℕ → Ident → Type 0
 Fine w f = (f ≡ Label) ⊎ (f ≡ ident_of w)
 
 search-fine : (n i : ℕ) (w : List ℕ) → i + n ≤ 32 → Fine w (find_in n i w)
-unfolding find_in if◌then◌else◌
+unfolding find_in when◌then◌else◌
 search-fine zero i w h = inl refl
 search-fine (suc n) i w h = go (same w (name_of (row i))) refl (search-fine n (i + 1) w (omega arith))
   where
-    go : (t : Bool) → same w (name_of (row i)) ≡ t → Fine w (find_in n (i + 1) w) → Fine w (if t then Reserved (code_of (row i)) else find_in n (i + 1) w)
+    go : (t : Bool) → same w (name_of (row i)) ≡ t → Fine w (find_in n (i + 1) w) → Fine w (when t then Reserved (code_of (row i)) else find_in n (i + 1) w)
     go true e f = inr (sym (row-right i (omega arith)) ∙ ap ident_of (sym (same_true w (name_of (row i)) e)))
     go false e f = f
 
@@ -65,8 +65,8 @@ module _ (c : ℕ) (l : 65 ≤ c) (h : c ≤ 90) where
   unfolding in_order
   next_last = leb-true _ _ (and_right (leb (first_row c) (first_row (c + 1))) _ (in_order_lem c l h))
 
-either-if : (P : Ident → Type 0) (b : Bool) {x y : Ident} → P x → (b ≡ false → P y) → P (if b then x else y)
-unfolding if◌then◌else◌
+either-if : (P : Ident → Type 0) (b : Bool) {x y : Ident} → P x → (b ≡ false → P y) → P (when b then x else y)
+unfolding when◌then◌else◌
 either-if P true p q = p
 either-if P false p q = q refl
 
@@ -84,11 +84,11 @@ searched-fine w =
 
 -- a word is a label, or is found by whatever finds the keys of these rows
 pub place-fine : (find : List ℕ → Ident) (w : List ℕ) (k : ℕ) (rs : List Row) → map (λ (r : Row). find r.key) rs ≡ map (λ (r : Row). ident_of r.key) rs → (place_from k w rs ≡ Label) ⊎ (find w ≡ ident_of w)
-unfolding place_from if◌then◌else◌
+unfolding place_from when◌then◌else◌
 place-fine find w k [] e = inl refl
 place-fine find w k (r ∷ rs) e = go (same w r.key) refl (place-fine find w (k + 1) rs (cc))
   where
-    go : (t : Bool) → same w r.key ≡ t → (place_from (k + 1) w rs ≡ Label) ⊎ (find w ≡ ident_of w) → ((if t then Reserved k else place_from (k + 1) w rs) ≡ Label) ⊎ (find w ≡ ident_of w)
+    go : (t : Bool) → same w r.key ≡ t → (place_from (k + 1) w rs ≡ Label) ⊎ (find w ≡ ident_of w) → ((when t then Reserved k else place_from (k + 1) w rs) ≡ Label) ⊎ (find w ≡ ident_of w)
     go true q f =
         let p : find r.key ≡ ident_of r.key = cc in
         inr (rw (same_true w r.key q) p)
@@ -109,22 +109,22 @@ first-upper (x ∷ s) h = refl
 -- the ways through the search
 module _ (s : List ℕ) where
   pub ident-short : length s < 2 → Label ≡ ident_of (map upper s)
-  unfolding searched if◌then◌else◌
+  unfolding searched when◌then◌else◌
   ident-short h = sym (rw (length-map s upper, lt-ltb _ _ h)) ∙ searched-right (map upper s)
 
   pub ident-long : 2 ≤ length s → 5 < length s → Label ≡ ident_of (map upper s)
-  unfolding searched if◌then◌else◌
+  unfolding searched when◌then◌else◌
   ident-long l h = sym (rw (length-map s upper, le-ltb _ _ l, lt-ltb _ _ h)) ∙ searched-right (map upper s)
 
   module _ {c : ℕ} (e : c ≡ upper (get_or s 0 0)) (l : 2 ≤ length s) (h : length s ≤ 5) where
     pub ident-low : c < 65 → Label ≡ ident_of (map upper s)
-    unfolding searched if◌then◌else◌
+    unfolding searched when◌then◌else◌
     ident-low k = sym (rw (length-map s upper, le-ltb _ _ l, le-ltb _ _ h, first-upper s l, ← e, lt-ltb _ _ k)) ∙ searched-right (map upper s)
 
     pub ident-high : 65 ≤ c → 90 < c → Label ≡ ident_of (map upper s)
-    unfolding searched if◌then◌else◌
+    unfolding searched when◌then◌else◌
     ident-high k m = sym (rw (length-map s upper, le-ltb _ _ l, le-ltb _ _ h, first-upper s l, ← e, le-ltb _ _ k, lt-ltb _ _ m)) ∙ searched-right (map upper s)
 
     pub ident-found : {r : Ident} {a b : ℕ} → 65 ≤ c → c ≤ 90 → a ≡ first_row c → b ≡ first_row (c + 1) → r ≡ find_in (b - a) a (map upper s) → r ≡ ident_of (map upper s)
-    unfolding searched if◌then◌else◌
+    unfolding searched when◌then◌else◌
     ident-found k m p q f = f ∙ rw (p, q) (sym (rw (length-map s upper, le-ltb _ _ l, le-ltb _ _ h, first-upper s l, ← e, le-ltb _ _ k, le-ltb _ _ m))) ∙ searched-right (map upper s)

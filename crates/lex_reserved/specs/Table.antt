@@ -1,6 +1,6 @@
 -- The table of reserved words as the code has it, and the search in it. Assumes nothing.
 use Rattle.std.specs.Prelude.{ℕ, zero, suc, ◌+◌, ◌-◌, List, [], ◌∷◌, ltb, length, get_or, take}
-use Rattle.rules.specs.Base.{if◌then◌else◌, same}
+use Rattle.rules.specs.Base.{when◌then◌else◌, same}
 use Rattle.lex_reserved.specs.declared.Ident.{Ident}
 use Rattle.lex_reserved.specs.declared.Ident.TheVariants.{Reserved, Label}
 
@@ -60,13 +60,13 @@ code_of r = get_or r 6 0
 -- the first of n rows from row i on whose word this is
 unfoldable pub find_in : ℕ → ℕ → List ℕ → Ident
 find_in zero i w = Label
-find_in (suc n) i w = if same w (name_of (row i)) then Reserved (code_of (row i)) else find_in n (i + 1) w
+find_in (suc n) i w = when same w (name_of (row i)) then Reserved (code_of (row i)) else find_in n (i + 1) w
 
 -- the search in the rows of the first letter
 unfoldable pub searched : List ℕ → Ident
 searched w =
-    if ltb (length w) 2 then Label
-    else if ltb 5 (length w) then Label
-    else if ltb (get_or w 0 0) 65 then Label
-    else if ltb 90 (get_or w 0 0) then Label
+    when ltb (length w) 2 then Label
+    else when ltb 5 (length w) then Label
+    else when ltb (get_or w 0 0) 65 then Label
+    else when ltb 90 (get_or w 0 0) then Label
     else find_in (first_row (get_or w 0 0 + 1) - first_row (get_or w 0 0)) (first_row (get_or w 0 0)) w

@@ -10,7 +10,7 @@ use lib.Dec.{ltb, eqb}
 use borrow.Author.Tests.{ltb-true, ltb-false, eqb-true, eqb-false}
 use lib.ListN.{length, get_or, take, drop, drop_of_length-le}
 use lib.Seq.{length-take-le, get_or-take, take-length}
-use Rattle.rules.specs.Base.{if◌then◌else◌, Outcome, ok, refuse, span, verdict}
+use Rattle.rules.specs.Base.{when◌then◌else◌, Outcome, ok, refuse, span, verdict}
 use Rattle.rules.specs.Tokens.{token_in, mark, next_token, ascii, lexed}
 use Rattle.rules.proofs.Walk.{tokens_on, onward, tokens-end, tokens-onward, Moves, next-moves, whole_on, whole-start, ascii-low, ascii-high}
 use Rattle.rules.proofs.Bools.{never}
@@ -114,10 +114,10 @@ module _ (s : List ℕ) (at : ℕ) (t : Lexeme) (y : Stands s at t) where
 
   -- the end of the source, or a refusal
   pub walk-stop : {z : Outcome (Unit {0})} {r : Lexed} → 10 ≤ t.sort → tokens_on s at ≡ z → r ≡ stop t → meant_lexed r ≡ z
-  unfolding stop meant_lexed onward if◌then◌else◌
+  unfolding stop meant_lexed onward when◌then◌else◌
   walk-stop {z} {r} h g f = ap meant_lexed f ∙ go (eqb t.sort 10) refl ∙ g
     where
-      go : (b : Bool) → eqb t.sort 10 ≡ b → meant_lexed (if b then Clean else Fault t.value t.start t.end) ≡ tokens_on s at
+      go : (b : Bool) → eqb t.sort 10 ≡ b → meant_lexed (when b then Clean else Fault t.value t.start t.end) ≡ tokens_on s at
       go true e =
           let q : t.sort ≡ 10 = eqb-true _ _ e in
           let k : next_token s at ≡ ok (token_in (mark 0) (span t.start t.end)) = y.token (omega (arith, q)) ∙ rw q in

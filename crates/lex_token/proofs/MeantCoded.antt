@@ -7,7 +7,7 @@ use native.Mathlib.Numerals.{add-one}
 use native.Mathlib.Omega.{arith}
 use lib.ListN.{length, get_or, drop}
 use lib.Seq.{drop-cons}
-use Rattle.rules.specs.Base.{if◌then◌else◌, ok, span}
+use Rattle.rules.specs.Base.{when◌then◌else◌, ok, span}
 use Rattle.rules.specs.Tokens.{plus, minus, Kind, number, register, mark, word, directive, text, token_in, next_token}
 use Rattle.rules.proofs.Shown.{Tells}
 use Rattle.rules.proofs.Next.{next-induction}
@@ -16,7 +16,7 @@ use Rattle.lex_token.specs.Meant.{part, kind_at, meant}
 
 module _ (s : List ℕ) where
   token-meant : (i n : ℕ) (k : Kind) → i < length s → Tells (get_or s i 0 ∷ drop (i + 1) s) n k → meant s (coded_as k i (i + n)) ≡ ok (token_in k (span i (i + n)))
-  unfolding coded_as meant kind_at marked part if◌then◌else◌
+  unfolding coded_as meant kind_at marked part when◌then◌else◌
   token-meant i n (number (plus x)) h t = refl
   token-meant i n (number (minus x)) h t = refl
   token-meant i n (register x) h t = refl
@@ -33,7 +33,7 @@ module _ (s : List ℕ) where
   token-meant i n (text x) h t = rw t
 
   pub meant-coded : (at : ℕ) → meant s (coded (next_token s at)) ≡ next_token s at
-  unfolding coded coded_as meant marked if◌then◌else◌
+  unfolding coded coded_as meant marked when◌then◌else◌
   meant-coded at =
       next-induction s (λ i o. meant s (coded o) ≡ o)
       (λ i h. refl)

@@ -1,6 +1,6 @@
 -- The rules' answers as the code tells them. Assumes nothing.
 use Rattle.std.specs.Prelude.{ℕ, ◌+◌, Bool, true, false, List, eqb, drop}
-use Rattle.rules.specs.Base.{if◌then◌else◌, Outcome, ok, refused}
+use Rattle.rules.specs.Base.{when◌then◌else◌, Outcome, ok, refused}
 use Rattle.rules.specs.Tokens.{plus, minus, Kind, number, register, mark, word, directive, text, Match, Token, form}
 use Rattle.rules.specs.Tokens as tokens
 use Rattle.rules.proofs.Next.{here}
@@ -12,7 +12,7 @@ use Rattle.lex_token.specs.declared.Next.TheVariants.{Took, End, Refused}
 
 -- a mark: 0 is the end of the source
 unfoldable pub marked : (c a e : ℕ) → Next
-marked c a e = if eqb c 0 then End a else if eqb c 58 then Took Colon a e else if eqb c 44 then Took Comma a e else Took NewLine a e
+marked c a e = when eqb c 0 then End a else when eqb c 58 then Took Colon a e else when eqb c 44 then Took Comma a e else Took NewLine a e
 
 unfoldable pub coded_as : Kind → (a e : ℕ) → Next
 coded_as (number (plus n)) a e = Took (Unsigned n) a e

@@ -12,7 +12,7 @@ use lib.Dec.{ltb}
 use lib.ListN.{length, get_or, length-replicate}
 use lib.Seq.{ext_get_or}
 use borrow.Author.Tests.{ltb-false}
-use Rattle.rules.specs.Base.{if◌then◌else◌, Outcome, ok, refused, Refusal}
+use Rattle.rules.specs.Base.{when◌then◌else◌, Outcome, ok, refused, Refusal}
 use Rattle.rules.specs.Capacities.{word_room}
 use Rattle.rules.specs.Answers as rule
 use Rattle.rules.specs.Objects.{Object, Counts, counts_of, flat, heads, Good}
@@ -232,10 +232,10 @@ unmeant a = record {
 }
 
 least-low : (m n : ℕ) → m ≤ n → least m n ≡ m
-unfolding least if◌then◌else◌
+unfolding least when◌then◌else◌
 least-low m n l = go (ltb m n) refl
   where
-    go : (t : Bool) → ltb m n ≡ t → (if t then m else n) ≡ m
+    go : (t : Bool) → ltb m n ≡ t → (when t then m else n) ≡ m
     go true e = refl
     go false e = omega (arith, ltb-false m n e)
 

@@ -6,7 +6,7 @@ use Prim.Native.Nat.{ℕ, ◌+◌, ◌≤◌, ◌<◌}
 use native.Mathlib.Omega.{arith}
 use lib.ListN.{length}
 use borrow.Author.Tests.{lt-ltb, le-ltb}
-use Rattle.rules.specs.Base.{if◌then◌else◌, Outcome, ok, refused, refuse, require, ◌>>=◌, ◌>>◌, span}
+use Rattle.rules.specs.Base.{when◌then◌else◌, Outcome, ok, refused, refuse, require, ◌>>=◌, ◌>>◌, span}
 use Rattle.rules.specs.Tables.{Table, name_order, look}
 use Rattle.rules.specs.Objects as Objects
 use Rattle.rules.specs.Objects.{Lab, Name}
@@ -58,30 +58,30 @@ module _ (f s : Checked) (t : Bool) (n : t ≡ false) where
 -- 40 AND 41
 
 abbrev weighing : Bool → Bool → Bool → Bool → Counts → Decision
-weighing b l r w c = if b || l || r then Refused 40 0 0 else (if w then Refused 41 0 0 else Linked c)
+weighing b l r w c = when b || l || r then Refused 40 0 0 else (when w then Refused 41 0 0 else Linked c)
 
 module _ (c : Counts) (room : ℕ) where
   pub weigh-blocks : 64 < c.blocks → Refused 40 0 0 ≡ weighed c room
-  unfolding weighed if◌then◌else◌
+  unfolding weighed when◌then◌else◌
   weigh-blocks h = rw (lt-ltb 64 c.blocks h) refl
 
   module _ (b : c.blocks ≤ 64) where
     pub weigh-labels : 1024 < c.labels → Refused 40 0 0 ≡ weighed c room
-    unfolding weighed if◌then◌else◌
+    unfolding weighed when◌then◌else◌
     weigh-labels h = rw (le-ltb 64 c.blocks b, lt-ltb 1024 c.labels h) refl
 
     module _ (l : c.labels ≤ 1024) where
       pub weigh-relocations : 1024 < c.relocations → Refused 40 0 0 ≡ weighed c room
-      unfolding weighed if◌then◌else◌
+      unfolding weighed when◌then◌else◌
       weigh-relocations h = rw (le-ltb 64 c.blocks b, le-ltb 1024 c.labels l, lt-ltb 1024 c.relocations h) refl
 
       module _ (r : c.relocations ≤ 1024) where
         pub weigh-words : room < c.words → Refused 41 0 0 ≡ weighed c room
-        unfolding weighed if◌then◌else◌
+        unfolding weighed when◌then◌else◌
         weigh-words h = rw (le-ltb 64 c.blocks b, le-ltb 1024 c.labels l, le-ltb 1024 c.relocations r, lt-ltb room c.words h) refl
 
         pub weigh-fits : c.words ≤ room → Linked c ≡ weighed c room
-        unfolding weighed if◌then◌else◌
+        unfolding weighed when◌then◌else◌
         weigh-fits h = rw (le-ltb 64 c.blocks b, le-ltb 1024 c.labels l, le-ltb 1024 c.relocations r, le-ltb room c.words h) refl
 
 -- THE JUDGEMENT

@@ -1,6 +1,6 @@
 -- What is decided of a link before anything is written. Assumes nothing.
 use Rattle.std.specs.Prelude.{◌≡◌, Bool, true, false, ◌||◌, List, ℕ, ◌+◌, ◌≤◌, ltb, length}
-use Rattle.rules.specs.Base.{if◌then◌else◌, Outcome, ok, Refusal, refused, refuse, span}
+use Rattle.rules.specs.Base.{when◌then◌else◌, Outcome, ok, Refusal, refused, refuse, span}
 use Rattle.rules.specs.Objects as Objects
 use Rattle.rules.specs.Objects.{Object, counts_of}
 use Rattle.rules.specs.Buffers.{tab, head_row, Buffers, short, view, Valid}
@@ -50,7 +50,7 @@ given check.BadObject check.BadObject false = check.BadObject
 -- 40, then 41
 unfoldable pub weighed : Counts → ℕ → Decision
 weighed c room =
-    if ltb 64 c.blocks || ltb 1024 c.labels || ltb 1024 c.relocations then Refused 40 0 0 else (if ltb room c.words then Refused 41 0 0 else Linked c)
+    when ltb 64 c.blocks || ltb 1024 c.labels || ltb 1024 c.relocations then Refused 40 0 0 else (when ltb room c.words then Refused 41 0 0 else Linked c)
 
 -- the counts of the result
 abbrev pub tallied : Counts → Counts → ℕ → ℕ → ℕ → Counts

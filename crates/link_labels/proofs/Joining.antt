@@ -7,7 +7,7 @@ use Prim.Native.Nat.{ℕ, zero, suc, ◌+◌, ◌*◌, ◌<◌}
 use native.Mathlib.Omega.{arith}
 use lib.ListN.{get_or}
 use borrow.Author.Tests.{eq-eqb, ne_eqb}
-use Rattle.rules.specs.Base.{if◌then◌else◌}
+use Rattle.rules.specs.Base.{when◌then◌else◌}
 use Rattle.rules.specs.Objects.{Lab, outer, defined}
 use Rattle.rules.specs.Buffers.{lab_from, lab_row, LabelsOk}
 use Rattle.rules.specs.Linking.{differ, join_lab}
@@ -42,24 +42,24 @@ pub row-in : {n k : ℕ} {ls ns : List ℕ} → LabelsOk n ls ns → k < n → R
 row-in {k = k} v l = record { here = omega (arith, v.room); low = (v.rows k l).address }
 
 first-open : (u v : Lab) → LowLab u → address_in (some u) ≡ 65536 → At (address_in (some v)) ≡ joined_as u v
-unfolding joined_as differ if◌then◌else◌
+unfolding joined_as differ when◌then◌else◌
 first-open outer v l e = refl
 first-open (defined a) v l e = absurd (omega arith)
 
 second-open : (u v : Lab) → LowLab v → (address_in (some u) ≡ 65536 → ⊥) → address_in (some v) ≡ 65536 → At (address_in (some u)) ≡ joined_as u v
-unfolding joined_as differ if◌then◌else◌
+unfolding joined_as differ when◌then◌else◌
 second-open outer v l n e = absurd (n refl)
 second-open (defined a) outer l n e = refl
 second-open (defined a) (defined b) l n e = absurd (omega arith)
 
 both_one : (u v : Lab) → (address_in (some u) ≡ 65536 → ⊥) → address_in (some u) ≡ address_in (some v) → At (address_in (some u)) ≡ joined_as u v
-unfolding joined_as differ if◌then◌else◌
+unfolding joined_as differ when◌then◌else◌
 both_one outer v n e = absurd (n refl)
 both_one (defined a) outer n e = refl
 both_one (defined a) (defined b) n e = rw (eq-eqb a b e)
 
 both-apart : (u v : Lab) → (address_in (some u) ≡ 65536 → ⊥) → (address_in (some v) ≡ 65536 → ⊥) → (address_in (some u) ≡ address_in (some v) → ⊥) → Apart ≡ joined_as u v
-unfolding joined_as differ if◌then◌else◌
+unfolding joined_as differ when◌then◌else◌
 both-apart outer v n m e = absurd (n refl)
 both-apart (defined a) outer n m e = absurd (m refl)
 both-apart (defined a) (defined b) n m e = rw (ne_eqb a b e)
@@ -80,17 +80,17 @@ module _ {al bl : List ℕ} {i j x y : ℕ} (r : RowIn al i) (t : RowIn bl j) (p
 
 -- what the answer says of the two
 pub at-false : (u v : Lab) {x : ℕ} → At x ≡ joined_as u v → (differ u (some v) ≡ false) × (x ≡ address_in (some (join_lab u v)))
-unfolding joined_as if◌then◌else◌
+unfolding joined_as when◌then◌else◌
 at-false u v {x} e = go (differ u (some v)) e
   where
-    go : (b : Bool) → At x ≡ (if b then Apart else At (address_in (some (join_lab u v)))) → (b ≡ false) × (x ≡ address_in (some (join_lab u v)))
+    go : (b : Bool) → At x ≡ (when b then Apart else At (address_in (some (join_lab u v)))) → (b ≡ false) × (x ≡ address_in (some (join_lab u v)))
     go true e = never cc
     go false e = (refl, cc)
 
 pub apart-true : (u v : Lab) → Apart ≡ joined_as u v → differ u (some v) ≡ true
-unfolding joined_as if◌then◌else◌
+unfolding joined_as when◌then◌else◌
 apart-true u v e = go (differ u (some v)) e
   where
-    go : (b : Bool) → Apart ≡ (if b then Apart else At (address_in (some (join_lab u v)))) → b ≡ true
+    go : (b : Bool) → Apart ≡ (when b then Apart else At (address_in (some (join_lab u v)))) → b ≡ true
     go true e = refl
     go false e = never cc

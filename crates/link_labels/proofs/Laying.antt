@@ -8,7 +8,7 @@ use native.Mathlib.Numerals.{add-one}
 use lib.ListN.{length, take, get_or}
 use lib.Seq.{take-suc, take_all, length-paste}
 use borrow.Author.Tests.{ne_eqb}
-use Rattle.rules.specs.Base.{if◌then◌else◌}
+use Rattle.rules.specs.Base.{when◌then◌else◌}
 use Rattle.rules.specs.Tables.{Table, name_order, look}
 use Rattle.rules.specs.Objects.{Lab, outer, defined, address_of, Name}
 use Rattle.rules.specs.Buffers.{zeros, lay, flag_of, name_row, lab_row, name_bytes, label_cells, LabelsOk}
@@ -33,7 +33,7 @@ use Rattle.link_labels.proofs.Due.{due-sided}
 
 -- the note of a label says the label
 noted_back : (v : Lab) → LowLab v → noted_lab (address_in (some v)) ≡ v
-unfolding noted_lab if◌then◌else◌
+unfolding noted_lab when◌then◌else◌
 noted_back outer l = refl
 noted_back (defined a) l = rw (ne_eqb a 65536 (λ e. (omega arith)))
 
@@ -43,11 +43,11 @@ noted-room e r = rw e r.room
 
 module _ (rs bs xs : List ℕ) (i : ℕ) {ls ns ls' ns' : List ℕ} {k at a r : ℕ} {y : Name} (e : y ≡ name_row rs bs i) (d : a ≡ (note_row xs i).1) where
   pub put-open : a ≡ 65536 → PutLabel ls ns ls' ns' k at 0 1 y r → PutLabel ls ns ls' ns' k at (address_of (noted_lab (get_or xs (i * 2 + 1) 0))) (flag_of (noted_lab (get_or xs (i * 2 + 1) 0))) (name_row rs bs i) r
-  unfolding noted_lab if◌then◌else◌
+  unfolding noted_lab when◌then◌else◌
   put-open z p = rw (← d, z) (rw e at p)
 
   pub put-defined : (a ≡ 65536 → ⊥) → PutLabel ls ns ls' ns' k at a 0 y r → PutLabel ls ns ls' ns' k at (address_of (noted_lab (get_or xs (i * 2 + 1) 0))) (flag_of (noted_lab (get_or xs (i * 2 + 1) 0))) (name_row rs bs i) r
-  unfolding noted_lab if◌then◌else◌
+  unfolding noted_lab when◌then◌else◌
   put-defined z p = rw (← d, ne_eqb a 65536 z) (rw e at p)
 
 join-low : (u v : Lab) → LowLab u → LowLab v → LowLab (join_lab u v)

@@ -1,6 +1,6 @@
 -- Which object has the row that is due, by notes; the label that a note says; what laying asks. Assumes nothing.
 use Rattle.std.specs.Prelude.{Bool, true, false, ◌&&◌, List, ℕ, ◌+◌, ◌*◌, ◌≤◌, ◌<◌, length, eqb, ltb}
-use Rattle.rules.specs.Base.{if◌then◌else◌}
+use Rattle.rules.specs.Base.{when◌then◌else◌}
 use Rattle.rules.specs.Capacities.{label_room}
 use Rattle.rules.specs.Objects.{Lab, outer, defined}
 use Rattle.rules.specs.Buffers.{name_row, LabelsOk}
@@ -23,7 +23,7 @@ side_of false false = Over
 
 -- the label that a note's address says
 unfoldable pub noted_lab : ℕ → Lab
-noted_lab x = if eqb x open_mark then outer else defined x
+noted_lab x = when eqb x open_mark then outer else defined x
 
 -- the note of row i is there, and room for its label as row k
 pub record NotedRoom (rs bs xs : List ℕ) (i : ℕ) (ls ns : List ℕ) (k at : ℕ) : Type 0 where

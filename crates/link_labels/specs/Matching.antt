@@ -1,7 +1,7 @@
 -- The labels of two objects in one table, which object has its next row, and what matching them answers. Assumes nothing.
 use Rattle.std.specs.Prelude.{◌≡◌, List, ℕ, ◌+◌, ◌*◌, ◌≤◌, ◌<◌, length, get_or}
 use Rattle.std.proofs.Math.Option.{some}
-use Rattle.rules.specs.Base.{Outcome, ok, refuse, span, if◌then◌else◌}
+use Rattle.rules.specs.Base.{Outcome, ok, refuse, span, when◌then◌else◌}
 use Rattle.rules.specs.Tables.{Table, Before, name_order, merge}
 use Rattle.rules.specs.Objects.{Lab, Name}
 use Rattle.rules.specs.Buffers.{name_row, view_labels, LabelsOk}
@@ -29,7 +29,7 @@ pub record RowIn (ls : List ℕ) (k : ℕ) : Type 0 where
 
 -- what two labels of one name become
 unfoldable pub joined_as : Lab → Lab → Joined
-joined_as u v = if differ u (some v) then Apart else At (address_in (some (join_lab u v)))
+joined_as u v = when differ u (some v) then Apart else At (address_in (some (join_lab u v)))
 
 -- WHICH OBJECT HAS THE NEXT ROW, when i rows of the first and j of the second are out
 

@@ -6,7 +6,7 @@ use mathlib.Core.Option.{Option, none, some}
 use Prim.Native.Nat.{ℕ, ◌+◌, ◌*◌, ◌<◌}
 use lib.Dec.{eqb}
 use lib.ListN.{length, get_or}
-use Rattle.rules.specs.Base.{if◌then◌else◌}
+use Rattle.rules.specs.Base.{when◌then◌else◌}
 use Rattle.rules.specs.Tables.{Table, hold, sieve}
 use Rattle.base_buffers.specs.Rows.{with_row}
 use Rattle.link_notes.specs.Notes.{open_mark, note_row, carried}
@@ -43,19 +43,19 @@ open-goes e t q = rw q refl
 
 -- and a table takes it or not
 pub put-stays : (e : ℕ × (ℕ × ℕ)) (k : ℕ) (out : List ℕ) → is_open e.1 ≡ true → put_open e k out ≡ with_row out k e.0 e.1.0
-unfolding put_open if◌then◌else◌
+unfolding put_open when◌then◌else◌
 put-stays e k out q = rw q refl
 
 pub put-goes : (e : ℕ × (ℕ × ℕ)) (k : ℕ) (out : List ℕ) → is_open e.1 ≡ false → put_open e k out ≡ out
-unfolding put_open if◌then◌else◌
+unfolding put_open when◌then◌else◌
 put-goes e k out q = rw q refl
 
 pub row_stays : (e : ℕ × (ℕ × ℕ)) (k : ℕ) → is_open e.1 ≡ true → row_after e k ≡ k + 1
-unfolding row_after if◌then◌else◌
+unfolding row_after when◌then◌else◌
 row_stays e k q = rw q refl
 
 pub row_goes : (e : ℕ × (ℕ × ℕ)) (k : ℕ) → is_open e.1 ≡ false → row_after e k ≡ k
-unfolding row_after if◌then◌else◌
+unfolding row_after when◌then◌else◌
 row_goes e k q = rw q refl
 
 -- WHAT PUTTING A RELOCATION LEAVES

@@ -1,7 +1,7 @@
 -- Which relocations of two objects stay open in their link, and the cells of their rows. Assumes nothing.
 use Rattle.std.specs.Prelude.{◌≡◌, Bool, true, false, List, [], ◌∷◌, ℕ, suc, ◌+◌, ◌*◌, ◌≤◌, ◌<◌, eqb, length, get_or}
 use Rattle.std.proofs.Math.Option.{Option, none, some}
-use Rattle.rules.specs.Base.{if◌then◌else◌}
+use Rattle.rules.specs.Base.{when◌then◌else◌}
 use Rattle.rules.specs.Tables.{Table, nat_order, merge, newer, sieve}
 use Rattle.base_buffers.specs.Rows.{with_row}
 use Rattle.link_notes.specs.Notes.{open_mark, carried, carried_rows}
@@ -28,10 +28,10 @@ row_cells (e ∷ t) = e.0 ∷ e.1.0 ∷ row_cells t
 
 -- the table out after a relocation, which is written as row k if it is open; and the row after it
 unfoldable pub put_open : ℕ × (ℕ × ℕ) → ℕ → List ℕ → List ℕ
-put_open e k out = if is_open e.1 then with_row out k e.0 e.1.0 else out
+put_open e k out = when is_open e.1 then with_row out k e.0 e.1.0 else out
 
 unfoldable pub row_after : ℕ × (ℕ × ℕ) → ℕ → ℕ
-row_after e k = if is_open e.1 then k + 1 else k
+row_after e k = when is_open e.1 then k + 1 else k
 
 -- n rows of relocations that rise by address, and a note for the label of each
 pub record Carried (n : ℕ) (rs ns : List ℕ) : Type 0 where

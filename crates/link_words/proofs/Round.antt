@@ -11,7 +11,7 @@ use lib.ListN.{length, set, length-set, length-map}
 use lib.Dec.{eqb}
 use lib.Seq.{set-append_left}
 use borrow.Author.Tests.{eq-eqb, ne_eqb}
-use Rattle.rules.specs.Base.{if◌then◌else◌}
+use Rattle.rules.specs.Base.{when◌then◌else◌}
 use Rattle.rules.specs.Tables.{Table, look, Sorted, nat_order, map_t}
 use Rattle.rules.specs.Objects.{Cell, word, Lab, outer, defined, Name, cells_from, cells, heads, flat}
 use Rattle.rules.specs.Linking.{settle, patch}
@@ -80,19 +80,19 @@ spot-under x hs p (there {h = h} {hs = t} {p = q} n s e) = let i = spot-under x 
 -- WORDS AND CELLS
 
 unfoldable pub settled_cell : List Cell → (p address : ℕ) → List Cell
-settled_cell cs p a = if eqb a open_mark then cs else set cs p (word a)
+settled_cell cs p a = when eqb a open_mark then cs else set cs p (word a)
 
 abbrev pub settled_cells : Table ℕ ℕ → List Cell → Table ℕ (ℕ × ℕ) → List Cell
 settled_cells hs cs [] = cs
 settled_cells hs cs (r ∷ rs) = settled_cells hs (settled_cell cs (place_of hs r.0) r.1.1) rs
 
 cell-open : (cs : List Cell) (p a : ℕ) → a ≡ open_mark → settled_cell cs p a ≡ cs
-unfolding settled_cell if◌then◌else◌
-cell-open cs p a e = ap (λ (b : Bool). if b then cs else set cs p (word a)) (eq-eqb a open_mark e)
+unfolding settled_cell when◌then◌else◌
+cell-open cs p a e = ap (λ (b : Bool). when b then cs else set cs p (word a)) (eq-eqb a open_mark e)
 
 cell_set : (cs : List Cell) (p a : ℕ) → (a ≡ open_mark → ⊥) → settled_cell cs p a ≡ set cs p (word a)
-unfolding settled_cell if◌then◌else◌
-cell_set cs p a n = ap (λ (b : Bool). if b then cs else set cs p (word a)) (ne_eqb a open_mark n)
+unfolding settled_cell when◌then◌else◌
+cell_set cs p a n = ap (λ (b : Bool). when b then cs else set cs p (word a)) (ne_eqb a open_mark n)
 
 length-cell : (cs : List Cell) (p a : ℕ) → length (settled_cell cs p a) ≡ length cs
 length-cell cs p a = elim (ℕ_discrete a open_mark) [

@@ -11,7 +11,7 @@ use lib.ListN.{length, get_or, set, length-set}
 use lib.Dec.{leb, eqb}
 use borrow.Author.Tests.{lt-ltb, le-ltb, leb-true, leb-false, eq-eqb, ne_eqb}
 use borrow.Author.Count.{below_more}
-use Rattle.rules.specs.Base.{if◌then◌else◌}
+use Rattle.rules.specs.Base.{when◌then◌else◌}
 use Rattle.rules.specs.Tables.{Table}
 use Rattle.rules.specs.Buffers.{tab, head_row, end_of, sum_of}
 use Rattle.rules.proofs.Merging.{rows_from, rows_all, rows_none, rows_next}
@@ -25,12 +25,12 @@ use Rattle.link_words.specs.Settled.{ends_before, word_place, WordAt, place_of, 
 -- ONE WORD
 
 pub word-open : (ws : List ℕ) (p a : ℕ) → a ≡ open_mark → ws ≡ settled_word ws p a
-unfolding settled_word if◌then◌else◌
-word-open ws p a e = sym (ap (λ (b : Bool). if b then ws else set ws p a) (eq-eqb a open_mark e))
+unfolding settled_word when◌then◌else◌
+word-open ws p a e = sym (ap (λ (b : Bool). when b then ws else set ws p a) (eq-eqb a open_mark e))
 
 pub word_set : (ws : List ℕ) (p a : ℕ) → (a ≡ open_mark → ⊥) → set ws p a ≡ settled_word ws p a
-unfolding settled_word if◌then◌else◌
-word_set ws p a n = sym (ap (λ (b : Bool). if b then ws else set ws p a) (ne_eqb a open_mark n))
+unfolding settled_word when◌then◌else◌
+word_set ws p a n = sym (ap (λ (b : Bool). when b then ws else set ws p a) (ne_eqb a open_mark n))
 
 -- as it is written
 pub word-written : (ws : List ℕ) (p a w : ℕ) → w ≡ a → (a ≡ open_mark → ⊥) → set ws p w ≡ settled_word ws p a
@@ -41,10 +41,10 @@ pub target_is : (rs notes : List ℕ) (k row r : ℕ) → row ≡ get_or rs (k *
 target_is rs notes k row r e p = p ∙ ap (λ (x : ℕ). (note_row notes x).1) e
 
 pub length-settled : (ws : List ℕ) (p a : ℕ) → length (settled_word ws p a) ≡ length ws
-unfolding settled_word if◌then◌else◌
+unfolding settled_word when◌then◌else◌
 length-settled ws p a = go (eqb a open_mark)
   where
-    go : (b : Bool) → length (if b then ws else set ws p a) ≡ length ws
+    go : (b : Bool) → length (when b then ws else set ws p a) ≡ length ws
     go true = refl
     go false = length-set ws p a
 
@@ -60,12 +60,12 @@ tells-place bs rs row passed k s x p q = λ i. passed + (p i - q i)
 -- THE PLACE
 
 pub place_here : (h : ℕ × ℕ) (hs : Table ℕ ℕ) (x : ℕ) → x < h.0 + h.1 → place_of (h ∷ hs) x ≡ x - h.0
-unfolding place_of if◌then◌else◌
-place_here h hs x l = ap (λ (b : Bool). if b then x - h.0 else h.1 + place_of hs x) (lt-ltb x (h.0 + h.1) l)
+unfolding place_of when◌then◌else◌
+place_here h hs x l = ap (λ (b : Bool). when b then x - h.0 else h.1 + place_of hs x) (lt-ltb x (h.0 + h.1) l)
 
 pub place-there : (h : ℕ × ℕ) (hs : Table ℕ ℕ) (x : ℕ) → h.0 + h.1 ≤ x → place_of (h ∷ hs) x ≡ h.1 + place_of hs x
-unfolding place_of if◌then◌else◌
-place-there h hs x l = ap (λ (b : Bool). if b then x - h.0 else h.1 + place_of hs x) (le-ltb x (h.0 + h.1) l)
+unfolding place_of when◌then◌else◌
+place-there h hs x l = ap (λ (b : Bool). when b then x - h.0 else h.1 + place_of hs x) (le-ltb x (h.0 + h.1) l)
 
 pub place-row : (n : ℕ) (h : ℕ → ℕ × ℕ) (k x : ℕ) → k < n → ((j : ℕ) → j < k → (h j).0 + (h j).1 ≤ x) → x < (h k).0 + (h k).1 → place_of (tab n h) x ≡ sum_of h k + (x - (h k).0)
 place-row zero h k x l p q = absurd (not-suc-le-zero l)

@@ -1,6 +1,6 @@
 -- The words of blocks with relocations settled: where the word of an address stands, and what is written there. Assumes nothing.
 use Rattle.std.specs.Prelude.{Bool, List, [], ◌∷◌, ℕ, suc, ◌+◌, ◌-◌, ◌*◌, ◌≤◌, ◌<◌, length, get_or, set, ltb, leb, eqb}
-use Rattle.rules.specs.Base.{if◌then◌else◌}
+use Rattle.rules.specs.Base.{when◌then◌else◌}
 use Rattle.rules.specs.Capacities.{word_room}
 use Rattle.rules.specs.Tables.{Table}
 use Rattle.rules.specs.Buffers.{head_row, sum_of}
@@ -10,11 +10,11 @@ use Rattle.link_blocks.specs.Meeting.{BlockRows}
 -- where the word of address x stands among the words of blocks, by their starts and lengths: in the first block that ends above it
 unfoldable pub place_of : Table ℕ ℕ → ℕ → ℕ
 place_of [] x = 0
-place_of (h ∷ hs) x = if ltb x (h.0 + h.1) then x - h.0 else h.1 + place_of hs x
+place_of (h ∷ hs) x = when ltb x (h.0 + h.1) then x - h.0 else h.1 + place_of hs x
 
 -- an address as word p, unless there is none
 unfoldable pub settled_word : List ℕ → (p address : ℕ) → List ℕ
-settled_word ws p address = if eqb address open_mark then ws else set ws p address
+settled_word ws p address = when eqb address open_mark then ws else set ws p address
 
 -- the relocations, each beside the note of its label, settled one after another
 unfoldable pub settled_words : Table ℕ ℕ → List ℕ → Table ℕ (ℕ × ℕ) → List ℕ

@@ -4,7 +4,7 @@ use mathlib.Core.Path.{◌≡◌, refl, ◌∙◌, ap}
 use mathlib.Core.List.{List, [], ◌∷◌, ◌++◌, flat_map}
 use native.Mathlib.Omega.{arith}
 use lib.ListN.{length, get_or}
-use Rattle.rules.specs.Base.{if◌then◌else◌, bytes}
+use Rattle.rules.specs.Base.{when◌then◌else◌, bytes}
 use Rattle.rules.specs.Buffers.{cell_of, cell_row}
 use Rattle.rules.specs.Listing.{hex_digit, hex4, cell_text, lf}
 use Rattle.list_lines.specs.Appended.{Appended}
@@ -17,7 +17,7 @@ unfolding hex4 head_line
 head x y a w p q = rw (p, q)
 
 pub cell-unset : (a w m : ℕ) (r : List ℕ) → m ≡ 0 → r ≡ hex4 a ++ bytes " " ++ hex4 0 ++ lf → r ≡ cell_line (a, cell_of w m)
-unfolding cell_line cell_text hex4 hex_digit if◌then◌else◌
+unfolding cell_line cell_text hex4 hex_digit when◌then◌else◌
 cell-unset a w m r e q = rw e q
 
 pub cell_set : (a w m : ℕ) (r : List ℕ) → (m ≡ 0 → ⊥) → r ≡ hex4 a ++ bytes " " ++ hex4 w ++ lf → r ≡ cell_line (a, cell_of w m)

@@ -7,7 +7,7 @@ use native.Mathlib.Omega.{arith}
 use borrow.Author.Tests.{lt-ltb, le-ltb}
 use lib.Dec.{ltb}
 use lib.ListN.{length, length-replicate}
-use Rattle.rules.specs.Base.{if◌then◌else◌, refuse, nowhere, bytes}
+use Rattle.rules.specs.Base.{when◌then◌else◌, refuse, nowhere, bytes}
 use Rattle.rules.specs.Buffers.{zeros}
 use Rattle.rules.specs.Listing.{decimal, lf, printed}
 use Rattle.rules.proofs.Bools.{either}
@@ -17,11 +17,11 @@ use Rattle.list_print.specs.Program.{Wrote}
 
 -- a number's digits
 decimal-one : (n a : ℕ) → n < 10 → a ≡ 48 + n → a ∷ [] ≡ decimal n
-unfolding decimal if◌then◌else◌
+unfolding decimal when◌then◌else◌
 decimal-one n a l e = rw (lt-ltb n 10 l) (ap (λ (x : ℕ). x ∷ []) e)
 
 decimal-two : (n a b : ℕ) → 10 ≤ n → a ≡ 48 + n / 10 → b ≡ 48 + n % 10 → a ∷ b ∷ [] ≡ decimal n
-unfolding decimal if◌then◌else◌
+unfolding decimal when◌then◌else◌
 decimal-two n a b l e f = rw (le-ltb n 10 l, e, f)
 
 decimal-length : (n : ℕ) → length (decimal n) ≤ 2

@@ -6,7 +6,7 @@ use mathlib.Core.List.{List, [], ◌∷◌, ◌++◌, append-nil}
 use native.Mathlib.Omega.{arith}
 use borrow.Author.Tests.{eq-eqb, ne_eqb, le-leb, lt-leb}
 use lib.ListN.{length, length-append, length-replicate}
-use Rattle.rules.specs.Base.{if◌then◌else◌, Outcome, ok, refused, refuse, Refusal, nowhere}
+use Rattle.rules.specs.Base.{when◌then◌else◌, Outcome, ok, refused, refuse, Refusal, nowhere}
 use Rattle.rules.specs.Capacities.{program_source_room, program_word_room}
 use Rattle.rules.specs.Answers.{answer}
 use Rattle.rules.specs.Objects.{Object, Counts, counts_of, flat}
@@ -37,7 +37,7 @@ pub lent-long : short lent ≡ false
 lent-long = long-enough lent (length-replicate {A = ℕ} 128 0) (length-replicate {A = ℕ} 4096 0) (length-replicate {A = ℕ} 2048 0) (length-replicate {A = ℕ} 65536 0)
 
 pub lent-words : lent_words lent.words lent.marks ≡ program_word_room
-unfolding lent_words least if◌then◌else◌
+unfolding lent_words least when◌then◌else◌
 lent-words = rw (length-replicate {A = ℕ} 32768 0) refl
 
 -- A CALL, of whatever outcome: what it leaves in these buffers tells the outcome, if what is accepted is good and fits, and what is refused has a number of the table
@@ -53,7 +53,7 @@ module _ (o : Outcome Object) (r : Answer) (b : Buffers) (l : Telling o r b) (le
     same : tells r b ≡ printed p
 
   told-object : (x : Object) → o ≡ ok x → Told (ok x)
-  unfolding tells if◌then◌else◌ printed
+  unfolding tells when◌then◌else◌ printed
   told-object x e =
       let c = l.good x e in
       let k : counts (counts_in r) ≡ counts_of x = ap (λ a. a.counts) c.counts in
@@ -72,7 +72,7 @@ module _ (o : Outcome Object) (r : Answer) (b : Buffers) (l : Telling o r b) (le
       }
 
   told-refused : (q : Refusal) → o ≡ refused q → Told (refused q)
-  unfolding tells if◌then◌else◌ printed answer
+  unfolding tells when◌then◌else◌ printed answer
   told-refused q e =
       let t : Leaves (refused q) lent r b = rw e at l.left in
       let n : r.number ≡ q.number = ap (λ a. a.number) t.answer in
@@ -102,7 +102,7 @@ module _ (o : Outcome Object) (r : Answer) (b : Buffers) (l : Telling o r b) (le
 -- ASSEMBLING
 module _ (s : List ℕ) where
   called_is : called lent s ≡ assemble program_word_room s
-  unfolding called of_bytes if◌then◌else◌
+  unfolding called of_bytes when◌then◌else◌
   called_is = rw (lent-long, lent-words) refl
 
   assembled-is : length s ≤ 65536 → assembled s ≡ assemble program_word_room s

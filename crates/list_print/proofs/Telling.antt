@@ -6,7 +6,7 @@ use mathlib.Core.List.{List}
 use native.Mathlib.Omega.{arith}
 use borrow.Author.Tests.{eq-eqb, ne_eqb, le-leb}
 use lib.ListN.{length}
-use Rattle.rules.specs.Base.{if◌then◌else◌, Outcome, ok, refuse, nowhere}
+use Rattle.rules.specs.Base.{when◌then◌else◌, Outcome, ok, refuse, nowhere}
 use Rattle.rules.specs.Answers.{answer}
 use Rattle.rules.specs.Objects.{Counts}
 use Rattle.rules.specs.Buffers.{Buffers, short, view, Valid}
@@ -63,9 +63,9 @@ module _ (a : Answer) (b : Buffers) (len : ℕ) where
       answer-fits = subst (λ (x : code.Counts). length (listing (view (counts x) b)) ≤ len) (sym k) (t.fits e)
 
     pub tells-object : (r : ℕ) (out : List ℕ) → Wrote (listing (view (counts d) b)) len r out → Wrote (tells a b) len r out
-    unfolding tells if◌then◌else◌
+    unfolding tells when◌then◌else◌
     tells-object r out w = rw (eq-eqb a.number 0 e) (subst (λ (x : code.Counts). Wrote (listing (view (counts x) b)) len r out) k w)
 
   pub tells-refused : (r : ℕ) (out : List ℕ) → (a.number ≡ 0 → ⊥) → Wrote (printed (refuse a.number nowhere)) len r out → Wrote (tells a b) len r out
-  unfolding tells if◌then◌else◌
+  unfolding tells when◌then◌else◌
   tells-refused r out e w = rw (ne_eqb a.number 0 e) w

@@ -3,7 +3,7 @@ use Rattle.std.specs.Prelude.{ℕ, ◌≤◌, ◌<◌, ◌≡◌, refl, Bool, eq
 use Rattle.std.proofs.Common.{sym, ◌∙◌}
 use Rattle.std.proofs.Math.Bool.{true, false}
 use mathlib.Core.List.{List, [], ◌∷◌, ◌++◌}
-use Rattle.rules.specs.Base.{if◌then◌else◌, refuse, nowhere}
+use Rattle.rules.specs.Base.{when◌then◌else◌, refuse, nowhere}
 use Rattle.rules.specs.Buffers.{Buffers, short, Valid, view, lay}
 use Rattle.rules.specs.Listing.{listing, printed, listing_program}
 use Rattle.object.specs.Meaning.{counts}
@@ -27,7 +27,7 @@ Listed src more len r buffer = (rest : List ℕ) → more ≡ follows rest → W
 
 -- number 0 is the object that stands in the buffers, any other a refusal
 unfoldable pub tells : Answer → Buffers → List ℕ
-tells a b = if eqb a.number 0 then listing (view (counts (counts_in a)) b) else printed (refuse a.number nowhere)
+tells a b = when eqb a.number 0 then listing (view (counts (counts_in a)) b) else printed (refuse a.number nowhere)
 
 -- an answer that can be told in so many bytes
 pub record Tellable (a : Answer) (b : Buffers) (len : ℕ) : Type 0 where

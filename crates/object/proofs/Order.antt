@@ -7,7 +7,7 @@ use Prim.Native.Nat.{ℕ}
 use native.Mathlib.Omega.{arith}
 use lib.Dec.{ltb}
 use borrow.Author.Tests.{ltb-true, ltb-false}
-use Rattle.rules.specs.Base.{if◌then◌else◌}
+use Rattle.rules.specs.Base.{when◌then◌else◌}
 use Rattle.rules.specs.Tables.{Before}
 use Rattle.base_text.specs.Names.{ordered}
 use Rattle.base_text.specs.declared.Order.{Order}
@@ -20,13 +20,13 @@ Meaning a b Same = a ≡ b
 Meaning a b Greater = Before b a
 
 pub meaning : (a b : List ℕ) → Meaning a b (ordered a b)
-unfolding ordered if◌then◌else◌
+unfolding ordered when◌then◌else◌
 meaning [] [] = refl
 meaning [] (y ∷ b) = tt
 meaning (x ∷ a) [] = tt
 meaning (x ∷ a) (y ∷ b) = go (ltb x y) refl (ltb y x) refl (ordered a b) (meaning a b)
   where
-    go : (s : Bool) → ltb x y ≡ s → (t : Bool) → ltb y x ≡ t → (o : Order) → Meaning a b o → Meaning (x ∷ a) (y ∷ b) (if s then Less else if t then Greater else o)
+    go : (s : Bool) → ltb x y ≡ s → (t : Bool) → ltb y x ≡ t → (o : Order) → Meaning a b o → Meaning (x ∷ a) (y ∷ b) (when s then Less else when t then Greater else o)
     go true p t q o m = inl (ltb-true x y p)
     go false p true q o m = inl (ltb-true y x q)
     go false p false q Less m = inr ((let l = ltb-false x y p in let k = ltb-false y x q in omega arith), m)

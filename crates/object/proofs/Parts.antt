@@ -7,7 +7,7 @@ use native.Mathlib.Omega.{arith}
 use lib.ListN.{length, get_or, take, drop, length-drop, drop_of_length-le, get_or-eq_default}
 use lib.Seq.{take_all}
 use borrow.Author.Tests.{lt-ltb, le-ltb}
-use Rattle.rules.specs.Base.{if◌then◌else◌}
+use Rattle.rules.specs.Base.{when◌then◌else◌}
 use Rattle.rules.specs.Objects.{Lab, outer, defined}
 use Rattle.rules.specs.Buffers.{least, lab_from, name_row}
 
@@ -48,9 +48,9 @@ lab-outer a (suc f) n = refl
 
 -- THE LESSER OF TWO
 pub least_first : (m n : ℕ) → m < n → m ≡ least m n
-unfolding least if◌then◌else◌
+unfolding least when◌then◌else◌
 least_first m n h = rw (lt-ltb m n h)
 
 pub least-second : (m n : ℕ) → n ≤ m → n ≡ least m n
-unfolding least if◌then◌else◌
+unfolding least when◌then◌else◌
 least-second m n h = rw (le-ltb m n h)

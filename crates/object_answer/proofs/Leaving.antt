@@ -2,7 +2,7 @@
 use mathlib.Core.Path.{◌≡◌, refl, sym, ◌∙◌, ap}
 use mathlib.Core.Bool.{Bool, true, false}
 use Prim.Native.Nat.{ℕ, ◌≤◌}
-use Rattle.rules.specs.Base.{if◌then◌else◌, Outcome, ok, refuse, refuse2, nowhere, span}
+use Rattle.rules.specs.Base.{when◌then◌else◌, Outcome, ok, refuse, refuse2, nowhere, span}
 use Rattle.rules.specs.Answers.{answer}
 use Rattle.rules.specs.Objects.{Object, nothing, counts_of, Good}
 use Rattle.rules.specs.Buffers.{Buffers, short, lent_words, layout}
@@ -22,10 +22,10 @@ accepted-left b r b' o l g s w = record { good = g; laid = l.buffers; counts = l
 
 -- what a call that is lent bytes accepts, its rule accepts, in buffers that are long enough
 pub called-accepts : {A : Type 0} (b : Buffers) (rule : Outcome A) (o : A) → of_bytes b rule ≡ ok o → (short b ≡ false) × (rule ≡ ok o)
-unfolding of_bytes if◌then◌else◌
+unfolding of_bytes when◌then◌else◌
 called-accepts b rule o e = go (short b) refl e
   where
-    go : (t : Bool) → short b ≡ t → (if t then refuse 42 nowhere else rule) ≡ ok o → (short b ≡ false) × (rule ≡ ok o)
+    go : (t : Bool) → short b ≡ t → (when t then refuse 42 nowhere else rule) ≡ ok o → (short b ≡ false) × (rule ≡ ok o)
     go true q x = never cc
     go false q x = (q, x)
 

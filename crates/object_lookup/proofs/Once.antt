@@ -6,7 +6,7 @@ use Prim.Native.Nat.{ℕ, ◌<◌}
 use native.Mathlib.Decide.{dec_lt}
 use native.Mathlib.Omega.{arith}
 use lib.Dec.{eqb}
-use Rattle.rules.specs.Base.{if◌then◌else◌, Outcome, ok, refused}
+use Rattle.rules.specs.Base.{when◌then◌else◌, Outcome, ok, refused}
 use Rattle.rules.specs.Tables.{name_order}
 use Rattle.rules.specs.Objects.{Lab, outer, defined, Name, Counts, lookup_label}
 use Rattle.rules.specs.Buffers.{Buffers, name_row, label_row, view, LabelsOk, Valid}
@@ -26,10 +26,10 @@ back : Outcome (Option Lab) → Said
 back (ok (some (defined a))) = say.Defined a
 back (ok (some outer)) = say.External
 back (ok none) = say.Nothing
-back (refused r) = if eqb r.number 42 then say.ShortBuffer else say.BadObject
+back (refused r) = when eqb r.number 42 then say.ShortBuffer else say.BadObject
 
 back-said : (r : Said) → back (said r) ≡ r
-unfolding back if◌then◌else◌
+unfolding back when◌then◌else◌
 back-said (say.Defined a) = refl
 back-said say.External = refl
 back-said say.Nothing = refl

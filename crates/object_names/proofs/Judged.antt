@@ -9,7 +9,7 @@ use lib.Dec.{eqb}
 use lib.ListN.{length, take, drop}
 use lib.Seq.{take-length}
 use borrow.Author.Tests.{eqb-true, ne_eqb, lt-leb, le-leb}
-use Rattle.rules.specs.Base.{if◌then◌else◌, Outcome, same}
+use Rattle.rules.specs.Base.{when◌then◌else◌, Outcome, same}
 use Rattle.rules.specs.Tokens.{Kind, number, register, mark, word, directive, text, plus, minus, Found, token, blank, bad, match, token_at, Token, next_token, upper}
 use Rattle.rules.specs.Words.{Row, instructions, find}
 use Rattle.rules.specs.Statements.{as_word, as_label}
@@ -36,11 +36,11 @@ free none = true
 free (some r) = false
 
 ident-free : (k : ℕ) (w : List ℕ) (rs : List Row) → is_label (place_from k w rs) ≡ free (find w rs)
-unfolding place_from find if◌then◌else◌ free
+unfolding place_from find when◌then◌else◌ free
 ident-free k w [] = refl
 ident-free k w (r ∷ rs) = go (same w r.key) (ident-free (k + 1) w rs)
   where
-    go : (b : Bool) → is_label (place_from (k + 1) w rs) ≡ free (find w rs) → is_label (if b then ident.Reserved k else place_from (k + 1) w rs) ≡ free (elim b [ true ↦ some r | false ↦ find w rs ])
+    go : (b : Bool) → is_label (place_from (k + 1) w rs) ≡ free (find w rs) → is_label (when b then ident.Reserved k else place_from (k + 1) w rs) ≡ free (elim b [ true ↦ some r | false ↦ find w rs ])
     go true e = refl
     go false e = e
 
@@ -85,10 +85,10 @@ word-whole l w n e = go (eqb n (length l)) refl
         last false = refl
 
 mark-never : (l : List ℕ) (c a e : ℕ) → whole_label l (marked c a e) ≡ false
-unfolding marked if◌then◌else◌
+unfolding marked when◌then◌else◌
 mark-never l c a e = go (eqb c 0) (eqb c 58) (eqb c 44)
   where
-    go : (p q r : Bool) → whole_label l (if p then End a else if q then Took tok.Colon a e else if r then Took tok.Comma a e else Took tok.NewLine a e) ≡ false
+    go : (p q r : Bool) → whole_label l (when p then End a else when q then Took tok.Colon a e else when r then Took tok.Comma a e else Took tok.NewLine a e) ≡ false
     go true q r = refl
     go false true r = refl
     go false false true = refl
@@ -147,7 +147,7 @@ match-whole l blank n a b h =
 match-whole l (bad m) n a b h = no-right (eqb n (length l))
 
 pub token-law : (l : List ℕ) → (whole_label l (coded (next_token l 0)) && same l (map upper l)) ≡ label_token l
-unfolding label_token coded coded_as marked if◌then◌else◌
+unfolding label_token coded coded_as marked when◌then◌else◌
 token-law [] = ap (λ (o : Outcome Token). whole_label [] (coded o) && true) (next-end [] 0 (omega arith))
 token-law (c ∷ s) =
     let w : Within (suc (length s)) (token_at c s) = token-within c s in

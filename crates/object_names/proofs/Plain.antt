@@ -8,7 +8,7 @@ use lib.Dec.{leb}
 use lib.ListN.{length, get_or, take, drop, length-drop, take-append-drop}
 use lib.Seq.{drop-drop, take_all, take-add}
 use borrow.Author.Tests.{eqb-true, eq-eqb, ne_eqb, leb-true, le-leb, lt-leb}
-use Rattle.rules.specs.Base.{if◌then◌else◌, is, within, same}
+use Rattle.rules.specs.Base.{when◌then◌else◌, is, within, same}
 use Rattle.rules.specs.Tokens.{token, digit, letter, wordy, upper, while, word_at, token_at}
 use Rattle.rules.specs.Objects.{label_token, good_name}
 use Rattle.rules.proofs.Bools.{never, and_left, and_right}
@@ -181,7 +181,7 @@ begins c e =
     all-or false false = refl
 
 begins-token : (c : ℕ) (s : List ℕ) → Begins c → token_at c s ≡ word_at (c ∷ s)
-unfolding token_at if◌then◌else◌
+unfolding token_at when◌then◌else◌
 begins-token c s b = rw (b.digit, b.hash, b.minus, b.no-x, b.no-r, b.letter) refl
 
 plain-good : (l : List ℕ) → length l ≤ 64 → plain l ≡ true → true ≡ good_name l

@@ -10,7 +10,7 @@ use borrow.Author.Tests.{eq-eqb, ne_eqb}
 use lib.Dec.{eqb}
 use lib.ListN.{length, take, drop, get_or, length-drop, drop_of_length-le}
 use lib.Seq.{take_all}
-use Rattle.rules.specs.Base.{if◌then◌else◌, ok, refuse, ◌>>=◌, span}
+use Rattle.rules.specs.Base.{when◌then◌else◌, ok, refuse, ◌>>=◌, span}
 use Rattle.rules.specs.Tokens.{token_in, directive, word, upper, next_token}
 use Rattle.rules.specs.Words.{find, instructions, directives}
 use Rattle.rules.specs.Statements.{as_word, as_directive, need, past_lines, past_labels, labels_at, token_read, next_statement}
@@ -53,34 +53,34 @@ module _ (s : List ℕ) (dot e : ℕ) where
 -- THE ROW THAT A TOKEN BEGINS
 module _ (s : List ℕ) (t : Lexeme) where
   pub code-word : t.sort ≡ 5 → t.value ≡ code_at s t
-  unfolding code_at if◌then◌else◌
+  unfolding code_at when◌then◌else◌
   code-word e = rw (eq-eqb t.sort 5 e)
 
   pub code-dot : (t.sort ≡ 5 → ⊥) → t.sort ≡ 6 → (n : List ℕ) → n ≡ part s (t.start + 1) t.end → (code : ℕ) → code ≡ code_from 32 (map upper n) directives → code ≡ code_at s t
-  unfolding code_at if◌then◌else◌
+  unfolding code_at when◌then◌else◌
   code-dot a e n p code q = rw (ne_eqb t.sort 5 a, eq-eqb t.sort 6 e) (rw p at q)
 
   pub code-none : (t.sort ≡ 5 → ⊥) → (t.sort ≡ 6 → ⊥) → 38 ≡ code_at s t
-  unfolding code_at if◌then◌else◌
+  unfolding code_at when◌then◌else◌
   code-none a b = rw (ne_eqb t.sort 5 a, ne_eqb t.sort 6 b)
 
 -- NO ROW
 module _ (b : Bool) (t : Lexeme) (r : NextStatement) where
   pub headless-long : t.sort ≡ 3 → r ≡ Refused 16 t.start t.end → r ≡ headless_at b t
-  unfolding headless_at if◌then◌else◌
+  unfolding headless_at when◌then◌else◌
   headless-long e f = rw (eq-eqb t.sort 3 e) f
 
   module _ (n : t.sort ≡ 3 → ⊥) where
     pub headless-labels : t.sort ≡ 10 → b ≡ true → r ≡ Refused 13 t.start t.end → r ≡ headless_at b t
-    unfolding headless_at if◌then◌else◌
+    unfolding headless_at when◌then◌else◌
     headless-labels e x f = rw (ne_eqb t.sort 3 n, eq-eqb t.sort 10 e, x) f
 
     pub headless-unfit : (t.sort ≡ 10 → ⊥) → r ≡ unfit_at t → r ≡ headless_at b t
-    unfolding headless_at if◌then◌else◌
+    unfolding headless_at when◌then◌else◌
     headless-unfit e f = rw (ne_eqb t.sort 3 n, ne_eqb t.sort 10 e) f
 
 pub headless-end : (b : Bool) (t : Lexeme) → (t.sort ≡ 3 → ⊥) → t.sort ≡ 10 → b ≡ false → End ≡ headless_at b t
-unfolding headless_at if◌then◌else◌
+unfolding headless_at when◌then◌else◌
 headless-end b t n e x = rw (ne_eqb t.sort 3 n, eq-eqb t.sort 10 e, x)
 
 -- THE FIRST TOKEN AFTER LABELS
@@ -148,11 +148,11 @@ module _ (s : List ℕ) (i : ℕ) (w : Walk) (r : NextStatement) (k : Walked s i
 
     -- a directive's place lies behind NOP's
     dot-code : t.sort ≡ 6 → code ≡ code_from 32 (map upper (part s (t.start + 1) t.end)) directives
-    unfolding code_at if◌then◌else◌
+    unfolding code_at when◌then◌else◌
     dot-code e = c ∙ rw e
 
     head-directive : t.sort ≡ 6 → code < 38 → RowAt → Answer
-    unfolding token_read as_directive kind_at need is_bare other_of if◌then◌else◌
+    unfolding token_read as_directive kind_at need is_bare other_of when◌then◌else◌
     head-directive e l f =
         let n = map upper (part s (t.start + 1) t.end) in
         let d : Found n code directives = directive-found n code (dot-code e) l in
@@ -179,25 +179,25 @@ module _ (s : List ℕ) (i : ℕ) (w : Walk) (r : NextStatement) (k : Walked s i
 
   -- any other token: its kind is no directive and no word
   module _ (l : NoFault t) (a : t.sort ≡ 5 → ⊥) (b : t.sort ≡ 6 → ⊥) (c : t.sort ≡ 3 → ⊥) where
-    other-token : next_statement s i ≡ (if eqb t.sort 10 && eqb (length (labels_at s i)) 0 then ok none else refuse 13 (span t.start t.end))
+    other-token : next_statement s i ≡ (when eqb t.sort 10 && eqb (length (labels_at s i)) 0 then ok none else refuse 13 (span t.start t.end))
     unfolding token_read
     other-token =
         let d : as_directive (kind_by s t.sort t) ≡ none = not-directive s t t.sort b in
         let w : as_word (kind_by s t.sort t) ≡ none = not-word s t t.sort c a in
         at-token l ∙ rw (d, w, token_read, end-sort s t t.sort l)
 
-  head-end : t.sort ≡ 10 → r ≡ (if w.labelled then Refused 13 t.start t.end else End) → Answer
-  unfolding coded_statement if◌then◌else◌
+  head-end : t.sort ≡ 10 → r ≡ (when w.labelled then Refused 13 t.start t.end else End) → Answer
+  unfolding coded_statement when◌then◌else◌
   head-end e f =
-      let u : next_statement s i ≡ (if eqb (length (labels_at s i)) 0 then ok none else refuse 13 (span t.start t.end)) = other-token (omega arith) (λ (x : t.sort ≡ 5). omega arith) (λ (x : t.sort ≡ 6). omega arith) (λ (x : t.sort ≡ 3). omega arith) ∙ rw (eq-eqb t.sort 10 e) in
+      let u : next_statement s i ≡ (when eqb (length (labels_at s i)) 0 then ok none else refuse 13 (span t.start t.end)) = other-token (omega arith) (λ (x : t.sort ≡ 5). omega arith) (λ (x : t.sort ≡ 6). omega arith) (λ (x : t.sort ≡ 3). omega arith) ∙ rw (eq-eqb t.sort 10 e) in
       f ∙ rw (k.labelled, u) (go (eqb (length (labels_at s i)) 0))
     where
-      go : (b : Bool) → (if not b then Refused 13 t.start t.end else End) ≡ coded_statement (if b then ok none else refuse 13 (span t.start t.end))
+      go : (b : Bool) → (when not b then Refused 13 t.start t.end else End) ≡ coded_statement (when b then ok none else refuse 13 (span t.start t.end))
       go true = refl
       go false = refl
 
   head-unfit : (t.sort ≡ 5 → ⊥) → (t.sort ≡ 6 → ⊥) → (t.sort ≡ 3 → ⊥) → (t.sort ≡ 10 → ⊥) → r ≡ unfit_at t → Answer
-  unfolding coded_statement unfit_at if◌then◌else◌
+  unfolding coded_statement unfit_at when◌then◌else◌
   head-unfit a b c d f = go (dec_lt t.sort fault_sort)
     where
       go : Dec (NoFault t) → Answer
@@ -222,7 +222,7 @@ module _ (s : List ℕ) (i : ℕ) (w : Walk) (r : NextStatement) (k : Walked s i
         go (no a) (no b) = absurd (omega (arith, c, code-none s t a b))
 
     pub head-less : 38 ≤ code → r ≡ headless_at w.labelled t → Answer
-    unfolding headless_at unfit_at if◌then◌else◌
+    unfolding headless_at unfit_at when◌then◌else◌
     head-less l f = go (ℕ_discrete t.sort 5) (ℕ_discrete t.sort 6) (ℕ_discrete t.sort 3) (ℕ_discrete t.sort 10)
       where
         go : Dec (t.sort ≡ 5) → Dec (t.sort ≡ 6) → Dec (t.sort ≡ 3) → Dec (t.sort ≡ 10) → Answer

@@ -9,7 +9,7 @@ use native.Mathlib.Omega.{arith}
 use borrow.Author.Tests.{eq-eqb, ne_eqb}
 use lib.Dec.{eqb}
 use lib.ListN.{length, get_or}
-use Rattle.rules.specs.Base.{if◌then◌else◌, Outcome, ok, refused, refuse, require, ◌>>=◌, span}
+use Rattle.rules.specs.Base.{when◌then◌else◌, Outcome, ok, refused, refuse, require, ◌>>=◌, span}
 use Rattle.rules.specs.Tokens.{Kind, token_in}
 use Rattle.rules.specs.Words.{end, instructions}
 use Rattle.rules.specs.Words as words
@@ -41,11 +41,11 @@ use Rattle.parse.specs.Coded.{coded_op, coded_read, coded_statement, unfit_at, m
 
 module _ (t : Lexeme) (r : NextStatement) where
   pub unfit-own : t.sort ≡ fault_sort → r ≡ Refused t.value t.start t.end → r ≡ unfit_at t
-  unfolding unfit_at if◌then◌else◌
+  unfolding unfit_at when◌then◌else◌
   unfit-own e h = rw (eq-eqb _ _ e) h
 
   pub unfit-other : (t.sort ≡ fault_sort → ⊥) → r ≡ Refused 13 t.start t.end → r ≡ unfit_at t
-  unfolding unfit_at if◌then◌else◌
+  unfolding unfit_at when◌then◌else◌
   unfit-other e h = rw (ne_eqb _ _ e) h
 
 -- THE LINE'S END
@@ -90,7 +90,7 @@ module _ (s : List ℕ) (b : Bool) (o : Op) (a : ℕ) (g : Given) (p : ℕ) (f :
       rw (l, ended) q
 
   pub finish-no : (t.sort ≡ 9 → ⊥) → (t.sort ≡ 10 → ⊥) → r ≡ unfit_at t → r ≡ finished s b o a g
-  unfolding finished ended unfit_at if◌then◌else◌ line_end
+  unfolding finished ended unfit_at when◌then◌else◌ line_end
   finish-no n m q = go (dec_lt t.sort fault_sort)
     where
       go : Dec (NoFault t) → r ≡ finished s b o a g
@@ -150,8 +150,8 @@ module _ (s : List ℕ) (b : Bool) (code : ℕ) (bare : Bool) (other a e : ℕ) 
   code-refused m j i y z = row-refused s b c.op (fields_by n c.first c.second c.third) other c.base a e x h r m j i y z ∙ is-step
 
 module _ (s : List ℕ) (ls : List Name) (b : Bool) (l : b ≡ not (eqb (length ls) 0)) (k : Kind) (code : ℕ) (r : words.Row) (m : Means (row_at code) r) (other a e : ℕ) where
-  pub code-coded : (bare : Bool) → code_step s b code bare other a e ≡ coded_statement (row_read s ls r (token_in k (span a e)) (if bare then [] else r.fields) other)
-  unfolding code_step count_due if◌then◌else◌
+  pub code-coded : (bare : Bool) → code_step s b code bare other a e ≡ coded_statement (row_read s ls r (token_in k (span a e)) (when bare then [] else r.fields) other)
+  unfolding code_step count_due when◌then◌else◌
   code-coded true = row-coded s ls b l k (row_at code) r m [] other a e
   code-coded false = rw m.fields (row-coded s ls b l k (row_at code) r m r.fields other a e)
 
@@ -167,21 +167,21 @@ module _ (s : List ℕ) (code i : ℕ) where
 
 module _ (code : ℕ) where
   pub other-nop : code ≡ 22 → 13 ≡ other_of code
-  unfolding other_of if◌then◌else◌
+  unfolding other_of when◌then◌else◌
   other-nop e = rw (eq-eqb code 22 e)
 
   pub other-any : (code ≡ 22 → ⊥) → 14 ≡ other_of code
-  unfolding other_of if◌then◌else◌
+  unfolding other_of when◌then◌else◌
   other-any n = rw (ne_eqb code 22 n)
 
 -- the rules' reading of an instruction is that of its row
-pub instr-row : (s : List ℕ) (ls : List Name) (code : ℕ) → code < 32 → (k : Kind) (a e : ℕ) → instr_read s ls (get_or instructions code no_row) (token_in k (span a e)) ≡ row_read s ls (get_or instructions code no_row) (token_in k (span a e)) (if is_bare s code e then [] else (get_or instructions code no_row).fields) (other_of code)
-unfolding instr_read is_bare other_of if◌then◌else◌
+pub instr-row : (s : List ℕ) (ls : List Name) (code : ℕ) → code < 32 → (k : Kind) (a e : ℕ) → instr_read s ls (get_or instructions code no_row) (token_in k (span a e)) ≡ row_read s ls (get_or instructions code no_row) (token_in k (span a e)) (when is_bare s code e then [] else (get_or instructions code no_row).fields) (other_of code)
+unfolding instr_read is_bare other_of when◌then◌else◌
 instr-row s ls code l k a e = rw nop (go (eqb code 22))
   where
     nop : (get_or instructions code no_row).optional ≡ eqb code 22
     nop = optional-zero code no_row l ∙ (ap (λ (x : ℕ). eqb x 0) (sym (instruction-means code l).base) ∙ nop-zero code l)
 
-    go : (x : Bool) → (if x then row_read s ls (get_or instructions code no_row) (token_in k (span a e)) (if token_is ends s e then [] else (get_or instructions code no_row).fields) 13 else row_read s ls (get_or instructions code no_row) (token_in k (span a e)) (get_or instructions code no_row).fields 14) ≡ row_read s ls (get_or instructions code no_row) (token_in k (span a e)) (if x && token_is ends s e then [] else (get_or instructions code no_row).fields) (if x then 13 else 14)
+    go : (x : Bool) → (when x then row_read s ls (get_or instructions code no_row) (token_in k (span a e)) (when token_is ends s e then [] else (get_or instructions code no_row).fields) 13 else row_read s ls (get_or instructions code no_row) (token_in k (span a e)) (get_or instructions code no_row).fields 14) ≡ row_read s ls (get_or instructions code no_row) (token_in k (span a e)) (when x && token_is ends s e then [] else (get_or instructions code no_row).fields) (when x then 13 else 14)
     go true = refl
     go false = refl

@@ -1,7 +1,7 @@
 -- The rules' statements as the code tells them. Assumes nothing.
 use Rattle.std.specs.Prelude.{ℕ, ◌+◌, Bool, ◌&&◌, not, ◌≡◌, List, map, eqb, length}
 use Rattle.std.proofs.Math.Option.{Option, none, some}
-use Rattle.rules.specs.Base.{if◌then◌else◌, Outcome, ok, refused, ◌>>=◌}
+use Rattle.rules.specs.Base.{when◌then◌else◌, Outcome, ok, refused, ◌>>=◌}
 use Rattle.rules.specs.Words.{instr, orig, fill, blkw, stringz, end, external, directives}
 use Rattle.rules.specs.Words as words
 use Rattle.rules.specs.Tokens.{upper, lexed}
@@ -75,7 +75,7 @@ pub record AllRead (s : List ℕ) : Type 0 where
 
 -- a token that cannot stand where it is
 unfoldable pub unfit_at : Lexeme → NextStatement
-unfit_at t = if eqb t.sort fault_sort then Refused t.value t.start t.end else Refused 13 t.start t.end
+unfit_at t = when eqb t.sort fault_sort then Refused t.value t.start t.end else Refused 13 t.start t.end
 
 -- a statement of what is given
 abbrev pub made : (labelled : Bool) → Op → (start : ℕ) → Given → (next : ℕ) → Statement
@@ -111,7 +111,7 @@ row_step s b o fs other w a e = after s b o a (line_step s fs other w e)
 
 -- how many of a row's operands are read: none where they are left out
 unfoldable pub count_due : ℕ → (bare : Bool) → ℕ
-count_due n bare = if bare then 0 else n
+count_due n bare = when bare then 0 else n
 
 -- the statement of the row at a place of the table
 unfoldable pub code_step : List ℕ → (labelled : Bool) → (code : ℕ) → (bare : Bool) → (other a e : ℕ) → NextStatement
@@ -125,18 +125,18 @@ is_bare s code i = eqb code nop_row && token_is ends s i
 
 -- what a token that is no operand of its field is refused with
 unfoldable pub other_of : ℕ → ℕ
-other_of code = if eqb code nop_row then 13 else 14
+other_of code = when eqb code nop_row then 13 else 14
 
 -- the place in the table of the row that a token begins: a reserved word's code, a directive's place, or how many rows there are
 unfoldable pub code_at : List ℕ → Lexeme → ℕ
 code_at s t =
-    if eqb t.sort 5 then t.value
-    else if eqb t.sort 6 then code_from 32 (map upper (part s (t.start + 1) t.end)) directives
+    when eqb t.sort 5 then t.value
+    else when eqb t.sort 6 then code_from 32 (map upper (part s (t.start + 1) t.end)) directives
     else 38
 
 -- what is answered where no row begins
 unfoldable pub headless_at : (labelled : Bool) → Lexeme → NextStatement
 headless_at b t =
-    if eqb t.sort 3 then Refused 16 t.start t.end
-    else if eqb t.sort 10 then (if b then Refused 13 t.start t.end else End)
+    when eqb t.sort 3 then Refused 16 t.start t.end
+    else when eqb t.sort 10 then (when b then Refused 13 t.start t.end else End)
     else unfit_at t

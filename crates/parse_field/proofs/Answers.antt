@@ -9,7 +9,7 @@ use native.Mathlib.Omega.{arith}
 use borrow.Author.Tests.{eq-eqb, ne_eqb, le-leb, lt-leb, leb-true}
 use lib.Dec.{leb}
 use lib.ListN.{length}
-use Rattle.rules.specs.Base.{if◌then◌else◌, ok, span}
+use Rattle.rules.specs.Base.{when◌then◌else◌, ok, span}
 use Rattle.rules.specs.Tokens.{plus, minus, token_in, number, register, word, text}
 use Rattle.rules.specs.Words.{find, instructions}
 use Rattle.rules.specs.Statements.{bits, target, chars, in_range, reduced, named, operand}
@@ -29,11 +29,11 @@ took-given g n i = refl
 
 module _ (t : Lexeme) (other : ℕ) (r : Step) where
   pub misplaced-own : t.sort ≡ fault_sort → r ≡ Refused t.value t.start t.end → r ≡ misplaced_at t other
-  unfolding misplaced_at if◌then◌else◌
+  unfolding misplaced_at when◌then◌else◌
   misplaced-own e h = rw (eq-eqb _ _ e) h
 
   pub misplaced-other : (t.sort ≡ fault_sort → ⊥) → r ≡ Refused other t.start t.end → r ≡ misplaced_at t other
-  unfolding misplaced_at if◌then◌else◌
+  unfolding misplaced_at when◌then◌else◌
   misplaced-other e h = rw (ne_eqb _ _ e) h
 
 -- A REGISTER
@@ -56,11 +56,11 @@ module _ (g : Given) (f : Field) (other : ℕ) (t : Lexeme) (m : ℕ) (r : Step)
 
 -- A NUMBER
 num-minus : (k v : ℕ) → k ≡ 1 → num_of k v ≡ minus v
-unfolding num_of if◌then◌else◌
+unfolding num_of when◌then◌else◌
 num-minus k v e = rw (eq-eqb _ _ e)
 
 num-plus : (k v : ℕ) → (k ≡ 1 → ⊥) → num_of k v ≡ plus v
-unfolding num_of if◌then◌else◌
+unfolding num_of when◌then◌else◌
 num-plus k v e = rw (ne_eqb _ _ e)
 
 module _ (g : Given) (f : Field) (other : ℕ) (t : Lexeme) (m : Range) (e : m ≡ range_of f) where
@@ -141,7 +141,7 @@ module _ (g : Given) (f : Field) (other : ℕ) (t : Lexeme) (m : ℕ) (r : Step)
     some-labels k = z (e ∙ k)
 
     pub label-took : (n : ℕ) → n ≡ t.end - t.start → n ≤ 64 → r ≡ Took (given g.bits m t.start t.end g.text_start g.text_end t.end) → Labelled
-    unfolding named if◌then◌else◌ add_to
+    unfolding named when◌then◌else◌ add_to
     label-took n q k h w l s =
         let b : leb (length w) 64 ≡ true = le-leb (length w) 64 (omega arith) in
         step_other g _ t.end r (target (record { field = reached f; name = record { text = w; place = span t.start t.end } }))
@@ -149,7 +149,7 @@ module _ (g : Given) (f : Field) (other : ℕ) (t : Lexeme) (m : ℕ) (r : Step)
         (h ∙ rw (e, reached-is f some-labels)) refl
 
     pub label-long : (n : ℕ) → n ≡ t.end - t.start → 64 < n → r ≡ Refused 16 t.start t.end → Labelled
-    unfolding named if◌then◌else◌
+    unfolding named when◌then◌else◌
     label-long n q k h w l s =
         let b : leb (length w) 64 ≡ false = lt-leb (length w) 64 (omega arith) in
         step-refused g _ t.end r 16 t.start t.end (label-yes other w (span t.start t.end) l f some-labels ∙ rw (b, named)) h

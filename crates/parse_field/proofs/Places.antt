@@ -7,7 +7,7 @@ use native.Mathlib.Decide.{dec_lt}
 use native.Mathlib.Omega.{arith}
 use borrow.Author.Tests.{eq-eqb, ne_eqb}
 use lib.ListN.{length, get_or}
-use Rattle.rules.specs.Base.{if◌then◌else◌, ok, refuse, Span, span}
+use Rattle.rules.specs.Base.{when◌then◌else◌, ok, refuse, Span, span}
 use Rattle.rules.specs.Tokens.{Kind, token_in, number, register, word, text, next_token}
 use Rattle.rules.specs.Words.{find, instructions}
 use Rattle.rules.specs.Words as words
@@ -72,7 +72,7 @@ module _ (s : List ℕ) (i : ℕ) (t : Lexeme) (g : Given) (f : Field) (other : 
     at_register e a = by_kind (register t.value) (omega arith) (rw e) a
 
     pub at-number : t.sort ≤ 1 → Adds g r (stepped g (operand (field_of f) other (token_in (number (num_of t.sort t.value)) (span t.start t.end))) t.end) → Placed
-    unfolding num_of if◌then◌else◌
+    unfolding num_of when◌then◌else◌
     at-number e a = by_kind (number (num_of t.sort t.value)) (omega arith) (go t.sort e) a
       where
         go : (k : ℕ) → k ≤ 1 → kind_by s k t ≡ number (num_of k t.value)
@@ -88,7 +88,7 @@ module _ (s : List ℕ) (i : ℕ) (t : Lexeme) (g : Given) (f : Field) (other : 
     at-text e a = by_kind (kind_by s 4 t) (omega arith) (rw e) (a _)
 
     pub at_other : (t.sort ≡ 2 → ⊥) → 1 < t.sort → (t.sort ≡ 3 → ⊥) → (t.sort ≡ 4 → ⊥) → r ≡ misplaced_at t other → Placed
-    unfolding misplaced_at if◌then◌else◌ Below stepped told
+    unfolding misplaced_at when◌then◌else◌ Below stepped told
     at_other a b c d e = go (dec_lt t.sort fault_sort)
       where
         plain : Refused other t.start t.end ≡ r → operand_step s (field_of f) other g i ≡ Refused other t.start t.end → Placed

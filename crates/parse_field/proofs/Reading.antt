@@ -5,7 +5,7 @@ use mathlib.Core.Bool.{true, false}
 use mathlib.Core.List.{List}
 use mathlib.Core.Option.{none}
 use native.Mathlib.Omega.{arith}
-use Rattle.rules.specs.Base.{if◌then◌else◌, Outcome, ok, refuse, ◌>>=◌, Span, span}
+use Rattle.rules.specs.Base.{when◌then◌else◌, Outcome, ok, refuse, ◌>>=◌, Span, span}
 use Rattle.rules.specs.Tokens.{Num, token_in, number, register, word, text}
 use Rattle.rules.specs.Words.{find, instructions, signed, unsigned, any_word}
 use Rattle.rules.specs.Words as words
@@ -115,11 +115,11 @@ module _ (other : ℕ) (n : Num) (p : Span) where
   number-yes Text e = absurd (e refl)
 
   pub number_in : (f : Field) → ((range_of f).modulus ≡ 0 → ⊥) → in_range (ranged f) n ≡ true → operand (field_of f) other (token_in (number n) p) ≡ ok (bits (raised f (reduced (ranged f) n)))
-  unfolding fit if◌then◌else◌
+  unfolding fit when◌then◌else◌
   number_in f e h = number-yes f e ∙ rw (h, fit)
 
   pub number-out : (f : Field) → ((range_of f).modulus ≡ 0 → ⊥) → in_range (ranged f) n ≡ false → operand (field_of f) other (token_in (number n) p) ≡ refuse 15 p
-  unfolding fit if◌then◌else◌
+  unfolding fit when◌then◌else◌
   number-out f e h = number-yes f e ∙ rw (h, fit)
 
 pub raised_is : (f : Field) (b : ℕ) → raised f b ≡ raise_of f + b

@@ -1,6 +1,6 @@
 -- Fields and what operands give, as the code has them. Assumes nothing.
 use Rattle.std.specs.Prelude.{ℕ, ◌+◌, ◌≤◌, Bool, true, false, List, ◌≡◌, eqb}
-use Rattle.rules.specs.Base.{if◌then◌else◌, Outcome, ok, refused, ◌>>=◌}
+use Rattle.rules.specs.Base.{when◌then◌else◌, Outcome, ok, refused, ◌>>=◌}
 use Rattle.rules.specs.Tokens.{Num, plus, minus, next_token}
 use Rattle.rules.specs.Words.{reg, reg_or_imm, num, near, name, string, signed, unsigned, any_word}
 use Rattle.rules.specs.Words as words
@@ -145,11 +145,11 @@ operand_step s f other g i = told (operand_given s f other g i)
 
 -- a number by its sort and size
 unfoldable pub num_of : ℕ → ℕ → Num
-num_of k n = if eqb k 1 then minus n else plus n
+num_of k n = when eqb k 1 then minus n else plus n
 
 -- its own refusal, or another
 unfoldable pub misplaced_at : Lexeme → ℕ → Step
-misplaced_at t other = if eqb t.sort fault_sort then Refused t.value t.start t.end else Refused other t.start t.end
+misplaced_at t other = when eqb t.sort fault_sort then Refused t.value t.start t.end else Refused other t.start t.end
 
 -- the word's bits are at most n
 unfoldable pub Below : ℕ → Step → Type 0

@@ -8,7 +8,7 @@ use native.Mathlib.Omega.{arith}
 use borrow.Author.Tests.{eq-eqb, ne_eqb, eqb-true, eqb-false}
 use lib.Dec.{eqb}
 use lib.ListN.{length, get_or}
-use Rattle.rules.specs.Base.{if◌then◌else◌}
+use Rattle.rules.specs.Base.{when◌then◌else◌}
 use Rattle.rules.specs.Statements.{Name, is_mark, name_at, stop_at, past_lines, past_colon, past_label, past_labels, labels_at}
 use Rattle.rules.proofs.Ahead.{Ends, token-ends, lines-on, lines-done, labels-on, labels-done, names-on, names-done}
 use Rattle.rules.proofs.Bools.{never}
@@ -180,7 +180,7 @@ module _ (s : List ℕ) (i p : ℕ) (e : p ≡ run_end class.Space s i) (c : ℕ
   line-less n = omega (arith, peek-inside s p c q n, e, end_ge class.Space s i)
 
   pub walk-line : (at : ℕ) (seen colon : Bool) → Walking s at i seen colon → c ≡ 10 → Walking s at (p + 1) seen false
-  unfolding marked if◌then◌else◌
+  unfolding marked when◌then◌else◌
   walk-line at seen colon w x = line_step_lem s at i seen colon w (lexeme 9 0 p (p + 1)) (peek-stands s i p e 10 (sym x ∙ q) refl) refl
 
 -- over a token, looked for behind the spaces

@@ -11,7 +11,7 @@ use lib.Dec.{leb}
 use lib.ListN.{length, take, drop, get_or, length-drop, length-map}
 use lib.Seq.{drop-cons, length-take-le}
 use borrow.Author.Tests.{leb-true}
-use Rattle.rules.specs.Base.{if◌then◌else◌, Outcome, ok, refused, Span, span}
+use Rattle.rules.specs.Base.{when◌then◌else◌, Outcome, ok, refused, Span, span}
 use Rattle.rules.specs.Tokens.{Kind, number, register, mark, word, directive, text, Token, token, match, token_at, upper, next_token}
 use Rattle.rules.specs.Words.{Row, find, instructions}
 use Rattle.rules.specs.Statements.{Name, as_word, as_label, as_name, name_at}
@@ -69,10 +69,10 @@ long : (s t : List ℕ) (p : Span) → Standing s t p → length t ≡ p.stop - 
 long s t p h = ap length h.same ∙ (length-map (take (p.stop - p.start) (drop p.start s)) upper ∙ length-take-le (p.stop - p.start) (drop p.start s) (omega (arith, h.within, length-drop p.start s)))
 
 labelled : (s : List ℕ) (k : Kind) (p : Span) (m : Name) → Worded s k p → as_name k p ≡ some m → Labels s m
-unfolding as_name as_label as_word if◌then◌else◌
+unfolding as_name as_label as_word when◌then◌else◌
 labelled s (word w) p m h e = go (find w instructions) refl e
   where
-    sized : find w instructions ≡ none → (b : Bool) → leb (length w) 64 ≡ b → ◌≡◌ {A = Option Name} (if b then some (record { text = w; place = p }) else none) (some m) → Labels s m
+    sized : find w instructions ≡ none → (b : Bool) → leb (length w) 64 ≡ b → ◌≡◌ {A = Option Name} (when b then some (record { text = w; place = p }) else none) (some m) → Labels s m
     sized f true q z =
         let y : record { text = w; place = p } ≡ m = cc in
         let l = leb-true (length w) 64 q in
@@ -80,7 +80,7 @@ labelled s (word w) p m h e = go (find w instructions) refl e
         rw y at v
     sized f false q z = never cc
 
-    go : (o : Option Row) → find w instructions ≡ o → ◌≡◌ {A = Option Name} (elim (elim o as (λ x. Option (List ℕ)) [ none ↦ some w | some r ↦ none ]) [ none ↦ none | some t ↦ if leb (length t) 64 then some (record { text = t; place = p }) else none ]) (some m) → Labels s m
+    go : (o : Option Row) → find w instructions ≡ o → ◌≡◌ {A = Option Name} (elim (elim o as (λ x. Option (List ℕ)) [ none ↦ some w | some r ↦ none ]) [ none ↦ none | some t ↦ when leb (length t) 64 then some (record { text = t; place = p }) else none ]) (some m) → Labels s m
     go none f z = sized f (leb (length w) 64) refl z
     go (some r) f z = never cc
 labelled s (number x) p m h e = never cc

@@ -10,7 +10,7 @@ use native.Mathlib.Omega.{arith}
 use borrow.Author.Tests.{eq-eqb, ne_eqb, eqb-true, eqb-false, le-leb, lt-leb, leb-true, leb-false}
 use lib.Dec.{eqb, leb}
 use lib.ListN.{length, get_or}
-use Rattle.rules.specs.Base.{if◌then◌else◌, Outcome, ok, refused, Span, span, has}
+use Rattle.rules.specs.Base.{when◌then◌else◌, Outcome, ok, refused, Span, span, has}
 use Rattle.rules.specs.Tokens.{Kind, word, Token, token_in, next_token}
 use Rattle.rules.specs.Words.{find, instructions}
 use Rattle.rules.specs.Statements.{Name, is_mark, as_word, as_label, as_name, name_at, token_is, stop_at, past_lines, past_colon, past_label}
@@ -35,15 +35,15 @@ module _ (s : List ℕ) (i p : ℕ) (e : p ≡ run_end class.Space s i) where
     h = stands_from s i p t (peek-from s i p e) k
 
     pub line-yes : t.sort ≡ 9 → t.end ≡ after_line s i
-    unfolding after_line if◌then◌else◌
+    unfolding after_line when◌then◌else◌
     line-yes x = rw (token-mark s i t h 10 9 (omega arith) (line-sort s t), eq-eqb _ _ x) (sym (stop-end s i t h (omega arith)))
 
     pub line-no : (t.sort ≡ 9 → ⊥) → i ≡ after_line s i
-    unfolding after_line if◌then◌else◌
+    unfolding after_line when◌then◌else◌
     line-no n = rw (token-mark s i t h 10 9 (omega arith) (line-sort s t), ne_eqb _ _ n)
 
   pub line-none : (c : ℕ) → c ≡ get_or s p 0 → (b : Bool) → b ≡ leads_line c → b ≡ false → i ≡ after_line s i
-  unfolding after_line leads_line if◌then◌else◌
+  unfolding after_line leads_line when◌then◌else◌
   line-none c q b l f = go (eqb c 10) (eqb c 13) (eqb c 59) refl refl refl (sym l ∙ f)
     where
       go : (x y z : Bool) → eqb c 10 ≡ x → eqb c 13 ≡ y → eqb c 59 ≡ z → (x || y || z) ≡ false → i ≡ after_line s i
@@ -76,10 +76,10 @@ lines_start s at = record { same = refl }
 
 module _ (s : List ℕ) (i next : ℕ) (e : next ≡ after_line s i) where
   by-line : {A : Type 0} → (token_is (is_mark 10) s i ≡ true → next ≡ stop_at s i → A) → (token_is (is_mark 10) s i ≡ false → next ≡ i → A) → A
-  unfolding after_line if◌then◌else◌
+  unfolding after_line when◌then◌else◌
   by-line {A} f g = go (token_is (is_mark 10) s i) refl e
     where
-      go : (b : Bool) → token_is (is_mark 10) s i ≡ b → next ≡ (if b then stop_at s i else i) → A
+      go : (b : Bool) → token_is (is_mark 10) s i ≡ b → next ≡ (when b then stop_at s i else i) → A
       go true q p = f q p
       go false q p = g q p
 
@@ -112,14 +112,14 @@ module _ (s : List ℕ) (i : ℕ) (t : Lexeme) (h : Stands s i t) where
   here-named e = name-token s i _ (rw e at (h.token (omega arith)))
 
   label-yes : t.sort ≡ 3 → t.end - t.start ≤ 64 → At t.start t.end ≡ label_here s i
-  unfolding label_here placed as_name as_label as_word if◌then◌else◌
+  unfolding label_here placed as_name as_label as_word when◌then◌else◌
   label-yes e l =
       let z : leb (length (name_of s t)) 64 ≡ true = le-leb (length (name_of s t)) 64 (omega (arith, h.size e)) in
       let w : name_at s i ≡ some (record { text = name_of s t; place = span t.start t.end }) = here-named e ∙ rw (h.label e, z, as_name) in
       sym (ap placed w)
 
   label-long : t.sort ≡ 3 → 64 < t.end - t.start → Nothing ≡ label_here s i
-  unfolding label_here placed as_name as_label as_word if◌then◌else◌
+  unfolding label_here placed as_name as_label as_word when◌then◌else◌
   label-long e l =
       let z : leb (length (name_of s t)) 64 ≡ false = lt-leb (length (name_of s t)) 64 (omega (arith, h.size e)) in
       let w : name_at s i ≡ none = here-named e ∙ rw (h.label e, z, as_name) in
@@ -129,7 +129,7 @@ no_label : (k : Kind) (p : Span) → has (as_word k) ≡ false → as_name k p �
 unfolding as_name as_label
 no_label k p e = go (as_word k) e
   where
-    go : (o : Option (List ℕ)) → has o ≡ false → ◌≡◌ {A = Option Name} (elim (elim o as (λ x. Option (List ℕ)) [ none ↦ none | some t ↦ elim (find t instructions) [ none ↦ some t | some r ↦ none ] ]) [ none ↦ none | some t ↦ if leb (length t) 64 then some (record { text = t; place = p }) else none ]) none
+    go : (o : Option (List ℕ)) → has o ≡ false → ◌≡◌ {A = Option Name} (elim (elim o as (λ x. Option (List ℕ)) [ none ↦ none | some t ↦ elim (find t instructions) [ none ↦ some t | some r ↦ none ] ]) [ none ↦ none | some t ↦ when leb (length t) 64 then some (record { text = t; place = p }) else none ]) none
     go none q = refl
     go (some w) q = never cc
 
@@ -179,14 +179,14 @@ module _ (s : List ℕ) (i : ℕ) (t : Lexeme) (h : Stands s i t) (b : Bool) (q 
 
 -- a label's place is its token's
 pub as-placed : (k : Kind) (p : Span) (n : Name) → as_name k p ≡ some n → n.place ≡ p
-unfolding as_name if◌then◌else◌
+unfolding as_name when◌then◌else◌
 as-placed k p n e = go (as_label k) e
   where
-    sized : (t : List ℕ) (b : Bool) → (if b then some (record { text = t; place = p }) else none) ≡ some n → n.place ≡ p
+    sized : (t : List ℕ) (b : Bool) → (when b then some (record { text = t; place = p }) else none) ≡ some n → n.place ≡ p
     sized t true q = let z : record { text = t; place = p } ≡ n = cc in ap (λ (x : Name). x.place) (sym z)
     sized t false q = never cc
 
-    go : (o : Option (List ℕ)) → ◌≡◌ {A = Option Name} (elim o [ none ↦ none | some t ↦ if leb (length t) 64 then some (record { text = t; place = p }) else none ]) (some n) → n.place ≡ p
+    go : (o : Option (List ℕ)) → ◌≡◌ {A = Option Name} (elim o [ none ↦ none | some t ↦ when leb (length t) 64 then some (record { text = t; place = p }) else none ]) (some n) → n.place ≡ p
     go none q = never cc
     go (some t) q = sized t (leb (length t) 64) q
 

@@ -7,7 +7,7 @@ use mathlib.Core.Logic.{◌⊎◌, inl, inr, ⊎_elim}
 use borrow.Author.Tests.{eqb-true, ltb-true, ltb-false}
 use lib.Dec.{leb, ltb}
 use lib.ListN.{length, get_or, drop}
-use Rattle.rules.specs.Base.{if◌then◌else◌, ok, span}
+use Rattle.rules.specs.Base.{when◌then◌else◌, ok, span}
 use Rattle.rules.specs.Tokens.{Kind, number, register, mark, word, directive, text, Found, token, blank, bad, Match, match, Form, while, wordy, space, value, begins, digits, read, dec, dec_neg, hex, hex_neg, reg, number_after, wrong_after, word_at, directive_after, after_hash, after_minus, after_x, after_r, Quoted, open', closed, quoted, line, after_quote, digit, letter, upper, token_at, Token, token_in, next_token}
 use Rattle.rules.specs.Statements.{is_mark, ends}
 use Rattle.rules.proofs.Next.{here, next-end, next_here}
@@ -81,7 +81,7 @@ module _ (c : ℕ) (s : List ℕ) where
   unfolding after_quote
   quote-fits = go (quoted false (line s))
     where
-      go : (q : Quoted) → Fits (elim q [ open' ↦ match (bad 7) (1 + length (line s)) | closed t n ↦ match (if leb (length t) 65534 then token (text t) else bad 8) (1 + n) ])
+      go : (q : Quoted) → Fits (elim q [ open' ↦ match (bad 7) (1 + length (line s)) | closed t n ↦ match (when leb (length t) 65534 then token (text t) else bad 8) (1 + n) ])
       go open' = tt
       go (closed t n) = either (Spans c (1 + n) letters) (leb (length t) 65534) tt tt
 
@@ -133,7 +133,7 @@ module _ (s : List ℕ) (q p : ℕ) (e : p ≡ run_end class.Space s q) (t : Tok
   end = run_end class.Line s (p + 1)
 
   no-comment : {A : Type 0} → c ≡ 59 → A
-  unfolding ends is_mark token_at after_semicolon digit letter upper if◌then◌else◌ from
+  unfolding ends is_mark token_at after_semicolon digit letter upper when◌then◌else◌ from
   no-comment {A} z = go (ltb end (length s)) refl
     where
       on : next_token s q ≡ next_token s end

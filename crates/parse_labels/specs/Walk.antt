@@ -1,7 +1,7 @@
 -- Newlines and labels as the code walks them. Assumes nothing.
 use Rattle.std.specs.Prelude.{ℕ, ◌-◌, Bool, false, ◌&&◌, ◌||◌, not, List, ◌≡◌, eqb, leb, length}
 use Rattle.std.proofs.Math.Option.{Option, none, some}
-use Rattle.rules.specs.Base.{if◌then◌else◌, is, ok}
+use Rattle.rules.specs.Base.{when◌then◌else◌, is, ok}
 use Rattle.rules.specs.Tokens.{Token, next_token}
 use Rattle.rules.specs.Statements.{Name, is_mark, ends, token_is, stop_at, past_lines, past_label, past_labels, name_at, labels_at}
 use Rattle.lex_token.specs.declared.Lexeme.{Lexeme}
@@ -14,7 +14,7 @@ use Rattle.parse_labels.specs.declared.Walk.{Walk}
 
 -- past a newline, where one stands
 unfoldable pub after_line : List ℕ → ℕ → ℕ
-after_line s i = if token_is (is_mark 10) s i then stop_at s i else i
+after_line s i = when token_is (is_mark 10) s i then stop_at s i else i
 
 -- a byte that a newline may begin with, or a comment before it: LF, CR, semicolon
 unfoldable pub leads_line : ℕ → Bool

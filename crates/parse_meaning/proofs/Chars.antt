@@ -7,7 +7,7 @@ use native.Mathlib.Omega.{arith}
 use borrow.Author.Tests.{ltb-true, ltb-false}
 use lib.Dec.{eqb, ltb}
 use lib.ListN.{length, length-append, drop_of_length-le}
-use Rattle.rules.specs.Base.{if◌then◌else◌}
+use Rattle.rules.specs.Base.{when◌then◌else◌}
 use Rattle.rules.specs.Tokens.{while, escape, closed, quoted, line}
 use Rattle.rules.proofs.Bools.{never}
 use Rattle.base_text.specs.Runs.{plain, in_class, from, run_end}
@@ -35,11 +35,11 @@ back-onward i [] = omega arith
 back-onward i (d ∷ l) = first-onward i (escape d)
 
 char-onward : (i : ℕ) (l : List ℕ) → Onward i (char_at i l)
-unfolding char_at if◌then◌else◌
+unfolding char_at when◌then◌else◌
 char-onward i [] = tt
 char-onward i (c ∷ l) = go (eqb c 34) (eqb c 92)
   where
-    go : (q k : Bool) → Onward i (if q then Done else if k then after_backslash i l else Char c (i + 1))
+    go : (q k : Bool) → Onward i (when q then Done else when k then after_backslash i l else Char c (i + 1))
     go true k = tt
     go false true = back-onward i l
     go false false = omega arith
@@ -121,10 +121,10 @@ module _ (s : List ℕ) where
 -- A RUN OF PLAIN BYTES, each a character
 
 plain-char : (i c : ℕ) (l : List ℕ) → plain c ≡ true → char_at i (c ∷ l) ≡ Char c (i + 1)
-unfolding plain char_at if◌then◌else◌
+unfolding plain char_at when◌then◌else◌
 plain-char i c l = go (eqb c 34) (eqb c 92) (eqb c 10) (eqb c 13)
   where
-    go : (q b f r : Bool) → not (q || b || f || r) ≡ true → (if q then Done else if b then after_backslash i l else Char c (i + 1)) ≡ Char c (i + 1)
+    go : (q b f r : Bool) → not (q || b || f || r) ≡ true → (when q then Done else when b then after_backslash i l else Char c (i + 1)) ≡ Char c (i + 1)
     go true b f r e = never cc
     go false true f r e = never cc
     go false false f r e = refl

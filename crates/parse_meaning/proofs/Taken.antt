@@ -10,7 +10,7 @@ use native.Mathlib.Omega.{arith}
 use borrow.Author.Tests.{leb-true}
 use lib.Dec.{leb}
 use lib.ListN.{length}
-use Rattle.rules.specs.Base.{if◌then◌else◌, Outcome, ok, refused, refuse, require, ◌>>=◌, Span}
+use Rattle.rules.specs.Base.{when◌then◌else◌, Outcome, ok, refused, refuse, require, ◌>>=◌, Span}
 use Rattle.rules.specs.Tokens.{Num, plus, minus, Kind, number, register, mark, word, directive, text, Token, next_token}
 use Rattle.rules.specs.Words.{Range, signed, Field, reg, reg_or_imm, num, near, name, string}
 use Rattle.rules.specs.Statements.{Name, Target, Piece, bits, target, chars, Given, add, as_register, as_number, as_label, as_name, as_text, is_mark, in_range, reduced, fit, named, need, operand, name_at, operand_at, comma_at, more_from, operands_from}
@@ -52,15 +52,15 @@ Adds s n (target t) = (t.field.modulus - 1 ≤ n) × Labels s t.name
 Adds s n (chars c q) = Unit {0}
 
 range-fits : (r : Range) (n : Num) (q : Span) (b : ℕ) → r.high < r.modulus → fit r n q ≡ ok b → b ≤ r.modulus - 1
-unfolding fit in_range reduced if◌then◌else◌
+unfolding fit in_range reduced when◌then◌else◌
 range-fits r (plus n) q b h e = go (leb n r.high) refl e
   where
-    go : (t : Bool) → leb n r.high ≡ t → (if t then ok n else refuse 15 q) ≡ ok b → b ≤ r.modulus - 1
+    go : (t : Bool) → leb n r.high ≡ t → (when t then ok n else refuse 15 q) ≡ ok b → b ≤ r.modulus - 1
     go true z y = let x : n ≡ b = cc in omega (arith, leb-true n r.high z)
     go false z y = never cc
 range-fits r (minus n) q b h e = go (leb n r.low) e
   where
-    go : (t : Bool) → (if t then ok ((r.modulus - n) % r.modulus) else refuse 15 q) ≡ ok b → b ≤ r.modulus - 1
+    go : (t : Bool) → (when t then ok ((r.modulus - n) % r.modulus) else refuse 15 q) ≡ ok b → b ≤ r.modulus - 1
     go true y = let x : (r.modulus - n) % r.modulus ≡ b = cc in omega (arith, mod-lt (r.modulus - n) {m = r.modulus} (omega arith))
     go false y = never cc
 
@@ -75,10 +75,10 @@ kind-register (text t) x e = never cc
 
 -- a name that an operand takes is the one at its place
 named-name : (k : Kind) (p : Span) (w : List ℕ) (l : Name) → as_label k ≡ some w → named w p ≡ ok l → as_name k p ≡ some l
-unfolding as_name named if◌then◌else◌
-named-name k p w l a n = ap (λ (o : Option (List ℕ)). elim o as (λ x. Option Name) [ none ↦ none | some t ↦ if leb (length t) 64 then some (record { text = t; place = p }) else none ]) a ∙ go (leb (length w) 64) n
+unfolding as_name named when◌then◌else◌
+named-name k p w l a n = ap (λ (o : Option (List ℕ)). elim o as (λ x. Option Name) [ none ↦ none | some t ↦ when leb (length t) 64 then some (record { text = t; place = p }) else none ]) a ∙ go (leb (length w) 64) n
   where
-    go : (b : Bool) → ◌≡◌ {A = Outcome Name} (if b then ok (record { text = w; place = p }) else refuse 16 p) (ok l) → ◌≡◌ {A = Option Name} (if b then some (record { text = w; place = p }) else none) (some l)
+    go : (b : Bool) → ◌≡◌ {A = Outcome Name} (when b then ok (record { text = w; place = p }) else refuse 16 p) (ok l) → ◌≡◌ {A = Option Name} (when b then some (record { text = w; place = p }) else none) (some l)
     go true e = let z : record { text = w; place = p } ≡ l = cc in ap (λ (x : Name). some x) z
     go false e = never cc
 

@@ -7,7 +7,7 @@ use native.Mathlib.Omega.{arith}
 use borrow.Author.Tests.{ltb-false}
 use lib.Dec.{leb, ltb}
 use lib.ListN.{length, drop, get_or}
-use Rattle.rules.specs.Base.{if◌then◌else◌, Outcome, ok, refused}
+use Rattle.rules.specs.Base.{when◌then◌else◌, Outcome, ok, refused}
 use Rattle.rules.specs.Tokens.{Kind, number, register, mark, word, directive, text, Found, token, blank, bad, Match, match, Form, while, wordy, value, digits, read, dec, dec_neg, hex, hex_neg, reg, number_after, wrong_after, word_at, directive_after, after_hash, after_minus, after_x, after_r, Quoted, open', closed, quoted, line, after_quote, token_at, Token, next_token}
 use Rattle.rules.proofs.Bools.{either}
 use Rattle.rules.proofs.Next.{next-induction}
@@ -35,11 +35,11 @@ module _ (l : List ℕ) where
 
   -- a number stays within its form's bound
   digits-mean : (f : Form) → ((x : ℕ) → x ≤ f.bound → Means l (f.kind x)) → (n : ℕ) → n ≤ f.bound → (s : List ℕ) → Finds l (digits f n s)
-  unfolding digits if◌then◌else◌
+  unfolding digits when◌then◌else◌
   digits-mean f h n b [] = h n b
   digits-mean f h n b (c ∷ s) = either (Finds l) (leb f.base (value c)) tt (go (ltb f.bound (n * f.base + value c)) refl (λ q. digits-mean f h (n * f.base + value c) q s))
     where
-      go : (t : Bool) → ltb f.bound (n * f.base + value c) ≡ t → (n * f.base + value c ≤ f.bound → Finds l (digits f (n * f.base + value c) s)) → Finds l (if t then bad f.over else digits f (n * f.base + value c) s)
+      go : (t : Bool) → ltb f.bound (n * f.base + value c) ≡ t → (n * f.base + value c ≤ f.bound → Finds l (digits f (n * f.base + value c) s)) → Finds l (when t then bad f.over else digits f (n * f.base + value c) s)
       go true e again = tt
       go false e again = again (ltb-false _ _ e)
 
@@ -107,7 +107,7 @@ module _ (l : List ℕ) where
   unfolding after_quote
   quote-means = go (quoted false (line l)) refl
     where
-      go : (q : Quoted) → quoted false (line l) ≡ q → Here (elim q [ open' ↦ match (bad 7) (1 + length (line l)) | closed t n ↦ match (if leb (length t) 65534 then token (text t) else bad 8) (1 + n) ])
+      go : (q : Quoted) → quoted false (line l) ≡ q → Here (elim q [ open' ↦ match (bad 7) (1 + length (line l)) | closed t n ↦ match (when leb (length t) 65534 then token (text t) else bad 8) (1 + n) ])
       go open' e = tt
       go (closed t n) e = either (Finds l) (leb (length t) 65534) (n, e) tt
 

@@ -7,7 +7,7 @@ use native.Mathlib.Numerals.{add-one}
 use native.Mathlib.Omega.{arith}
 use borrow.Author.Tests.{eq-eqb, ne_eqb}
 use lib.ListN.{length, get_or, drop, drop_of_length-le}
-use Rattle.rules.specs.Base.{if◌then◌else◌, Outcome, ok, refused, refuse, ◌>>=◌, span}
+use Rattle.rules.specs.Base.{when◌then◌else◌, Outcome, ok, refused, refuse, ◌>>=◌, span}
 use Rattle.rules.specs.Tokens.{Token, token_in, next_token}
 use Rattle.rules.specs.Words.{Field}
 use Rattle.rules.specs.Statements.{Piece, bits, target, chars, is_mark, operand, add, bare, comma_at, operand_at, more_from, operands_from}
@@ -34,12 +34,12 @@ use Rattle.parse_operands.specs.Lines.{field_in, due_at, coded_due, next_step, c
 -- WHERE AN OPERAND IS DUE
 module _ (s : List ℕ) (k i : ℕ) where
   pub due-first : k ≡ 0 → At i ≡ coded_due (due_at s k i)
-  unfolding due_at coded_due if◌then◌else◌
+  unfolding due_at coded_due when◌then◌else◌
   due-first e = rw (eq-eqb k 0 e)
 
   module _ (n : k ≡ 0 → ⊥) where
     due-comma : due_at s k i ≡ comma_at s i
-    unfolding due_at if◌then◌else◌
+    unfolding due_at when◌then◌else◌
     due-comma = rw (ne_eqb k 0 n)
 
     module _ (p : ℕ) (e : p ≡ run_end class.Space s i) (c : ℕ) (q : c ≡ get_or s p 0) where
@@ -117,7 +117,7 @@ module _ (s : List ℕ) (other : ℕ) where
   rest_from k (f ∷ fs) g = (due_at s k g.stop >>= λ j. operand_at s f other g j) >>= more_from s fs other
 
   all_left : (fs : List Field) (g : rules.Given) → operands_from s fs other g ≡ rest_from 0 fs g
-  unfolding operands_from rest_from due_at if◌then◌else◌
+  unfolding operands_from rest_from due_at when◌then◌else◌
   all_left [] g = refl
   all_left (f ∷ fs) g = refl
 

@@ -1,7 +1,7 @@
 -- A statement's operands as the code has them. Assumes nothing.
 use Rattle.std.specs.Prelude.{ℕ, zero, suc, List, eqb}
 use Rattle.std.proofs.Math.Option.{Option, none, some}
-use Rattle.rules.specs.Base.{if◌then◌else◌, Outcome, ok, refused, ◌>>=◌}
+use Rattle.rules.specs.Base.{when◌then◌else◌, Outcome, ok, refused, ◌>>=◌}
 use Rattle.rules.specs.Words.{Field}
 use Rattle.rules.specs.Statements.{Target, bare, comma_at, operands_from}
 use Rattle.rules.specs.Statements as rules
@@ -22,7 +22,7 @@ field_in (suc (suc k)) a b c = c
 
 -- where operand k is due, behind operands that end at i
 unfoldable pub due_at : List ℕ → (k i : ℕ) → Outcome ℕ
-due_at s k i = if eqb k 0 then ok i else comma_at s i
+due_at s k i = when eqb k 0 then ok i else comma_at s i
 
 unfoldable pub coded_due : Outcome ℕ → Due
 coded_due (ok i) = At i

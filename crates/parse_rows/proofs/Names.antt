@@ -6,7 +6,7 @@ use mathlib.Core.List.{List, [], ◌∷◌, map}
 use native.Mathlib.Omega.{arith}
 use lib.Dec.{eqb}
 use lib.ListN.{length, get_or, length-map}
-use Rattle.rules.specs.Base.{if◌then◌else◌, bytes, same}
+use Rattle.rules.specs.Base.{when◌then◌else◌, bytes, same}
 use Rattle.rules.specs.Tokens.{upper}
 use Rattle.rules.specs.Words.{directives}
 use Rattle.rules.proofs.Named.{same_true}
@@ -24,27 +24,27 @@ code-found w k e p q = e ∙ ap (λ (x : List ℕ). code_from 32 x directives) (
 -- the six, as the code meets them
 module _ (w : List ℕ) {t : Bool} where
   pub code-orig : t ≡ same w (bytes "ORIG") → t ≡ true → 32 ≡ code_from 32 w directives
-  unfolding directives code_from if◌then◌else◌
+  unfolding directives code_from when◌then◌else◌
   code-orig = code-found w (bytes "ORIG") refl
 
   pub code-fill : t ≡ same w (bytes "FILL") → t ≡ true → 33 ≡ code_from 32 w directives
-  unfolding directives code_from if◌then◌else◌
+  unfolding directives code_from when◌then◌else◌
   code-fill = code-found w (bytes "FILL") refl
 
   pub code-blkw : t ≡ same w (bytes "BLKW") → t ≡ true → 34 ≡ code_from 32 w directives
-  unfolding directives code_from if◌then◌else◌
+  unfolding directives code_from when◌then◌else◌
   code-blkw = code-found w (bytes "BLKW") refl
 
   pub code-stringz : t ≡ same w (map upper (bytes "STRINGZ")) → t ≡ true → 35 ≡ code_from 32 w directives
-  unfolding directives code_from if◌then◌else◌ upper
+  unfolding directives code_from when◌then◌else◌ upper
   code-stringz = code-found w (bytes "STRINGZ") refl
 
   pub code-end : t ≡ same w (map upper (bytes "END")) → t ≡ true → 36 ≡ code_from 32 w directives
-  unfolding directives code_from if◌then◌else◌ upper
+  unfolding directives code_from when◌then◌else◌ upper
   code-end = code-found w (bytes "END") refl
 
   pub code-external : t ≡ same w (map upper (bytes "EXTERNAL")) → t ≡ true → 37 ≡ code_from 32 w directives
-  unfolding directives code_from if◌then◌else◌ upper
+  unfolding directives code_from when◌then◌else◌ upper
   code-external = code-found w (bytes "EXTERNAL") refl
 
 -- a name of another length than a directive's
@@ -75,7 +75,7 @@ four_same s k {a} {b} {c} {d} h l p q u v =
 
 -- no directive
 pub four-none : (s : List ℕ) {f b o : Bool} → length s ≡ 4 → f ≡ same (map upper s) (bytes "FILL") → f ≡ false → b ≡ same (map upper s) (bytes "BLKW") → b ≡ false → o ≡ same (map upper s) (bytes "ORIG") → o ≡ false → 38 ≡ code_from 32 (map upper s) directives
-unfolding directives code_from if◌then◌else◌
+unfolding directives code_from when◌then◌else◌
 four-none s h p f q b r o =
     let z : same (map upper s) (bytes "STRINGZ") ≡ false = other-size s _ (λ e. omega arith) in
     let e : same (map upper s) (bytes "END") ≡ false = other-size s _ (λ e. omega arith) in
@@ -83,7 +83,7 @@ four-none s h p f q b r o =
     rw (sym r ∙ o, sym p ∙ f, sym q ∙ b, z, e, x, code_from)
 
 pub code-none : (s : List ℕ) {z e x : Bool} → (length s ≡ 4 → ⊥) → z ≡ same (map upper s) (map upper (bytes "STRINGZ")) → z ≡ false → e ≡ same (map upper s) (map upper (bytes "END")) → e ≡ false → x ≡ same (map upper s) (map upper (bytes "EXTERNAL")) → x ≡ false → 38 ≡ code_from 32 (map upper s) directives
-unfolding directives code_from if◌then◌else◌ upper
+unfolding directives code_from when◌then◌else◌ upper
 code-none s h p z q e r x =
     let o : same (map upper s) (bytes "ORIG") ≡ false = other-size s _ h in
     let f : same (map upper s) (bytes "FILL") ≡ false = other-size s _ h in

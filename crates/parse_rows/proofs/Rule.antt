@@ -8,7 +8,7 @@ use native.Mathlib.Nat.{not-suc-le-zero, le_of_suc-le-suc}
 use native.Mathlib.Omega.{arith}
 use lib.Dec.{eqb}
 use lib.ListN.{length, get_or}
-use Rattle.rules.specs.Base.{if◌then◌else◌, same}
+use Rattle.rules.specs.Base.{when◌then◌else◌, same}
 use Rattle.rules.specs.Words.{Op, Field, Row, instructions, directives, find}
 use Rattle.rules.proofs.Run.{in_run}
 use Rattle.rules.proofs.Bools.{either}
@@ -42,11 +42,11 @@ each-means j (r ∷ rs) e =
     (record { op = ap (λ (x : Says). x.0) h; base = ap (λ (x : Says). x.1) h; fields = ap (λ (x : Says). x.2) h }, each-means (j + 1) rs (cc))
 
 each-instruction : MeansFrom 0 instructions
-unfolding instructions table cells field_at op_at row_at if◌then◌else◌
+unfolding instructions table cells field_at op_at row_at when◌then◌else◌
 each-instruction = each-means 0 instructions refl
 
 each-directive : MeansFrom 32 directives
-unfolding directives table cells field_at op_at row_at if◌then◌else◌
+unfolding directives table cells field_at op_at row_at when◌then◌else◌
 each-directive = each-means 32 directives refl
 
 means-at : (i j : ℕ) (rs : List Row) → MeansFrom j rs → i < length rs → Means (row_at (j + i)) (get_or rs i no_row)
@@ -80,20 +80,20 @@ unfolding find
 found-on w k r rs b f = record { row = f.row; is = rw (b, find) f.is; means = f.means }
 
 found : (w : List ℕ) (j k : ℕ) (rs : List Row) → MeansFrom j rs → k ≡ code_from j w rs → k < j + length rs → Found w k rs
-unfolding code_from find if◌then◌else◌
+unfolding code_from find when◌then◌else◌
 found w j k [] m e h = absurd (omega arith)
 found w j k (r ∷ rs) m e h = go (same w r.key) refl e (found w (j + 1) k rs m.1)
   where
-    go : (b : Bool) → same w r.key ≡ b → k ≡ (if b then j else code_from (j + 1) w rs) → (k ≡ code_from (j + 1) w rs → k < j + 1 + length rs → Found w k rs) → Found w k (r ∷ rs)
+    go : (b : Bool) → same w r.key ≡ b → k ≡ (when b then j else code_from (j + 1) w rs) → (k ≡ code_from (j + 1) w rs → k < j + 1 + length rs → Found w k rs) → Found w k (r ∷ rs)
     go true b q ih = record { row = r; is = rw (b, find); means = rw q m.0 }
     go false b q ih = found-on w k r rs b (ih q (omega arith))
 
 missed : (w : List ℕ) (j k : ℕ) (rs : List Row) → k ≡ code_from j w rs → j + length rs ≤ k → find w rs ≡ none
-unfolding code_from find if◌then◌else◌
+unfolding code_from find when◌then◌else◌
 missed w j k [] e h = refl
 missed w j k (r ∷ rs) e h = go (same w r.key) refl e (missed w (j + 1) k rs)
   where
-    go : (b : Bool) → same w r.key ≡ b → k ≡ (if b then j else code_from (j + 1) w rs) → (k ≡ code_from (j + 1) w rs → j + 1 + length rs ≤ k → find w rs ≡ none) → find w (r ∷ rs) ≡ none
+    go : (b : Bool) → same w r.key ≡ b → k ≡ (when b then j else code_from (j + 1) w rs) → (k ≡ code_from (j + 1) w rs → j + 1 + length rs ≤ k → find w rs ≡ none) → find w (r ∷ rs) ≡ none
     go true b q ih = absurd (omega arith)
     go false b q ih = rw (b, find) (ih q (omega arith))
 

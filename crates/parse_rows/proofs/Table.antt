@@ -4,7 +4,7 @@ use mathlib.Core.Path.{◌≡◌}
 use native.Mathlib.Omega.{arith}
 use borrow.Author.Tests.{ne_eqb}
 use lib.ListN.{get_or}
-use Rattle.rules.specs.Base.{if◌then◌else◌}
+use Rattle.rules.specs.Base.{when◌then◌else◌}
 use Rattle.rules.proofs.Run.{same_run}
 use Rattle.parse_field.specs.declared.Field.{Field}
 use Rattle.parse_field.specs.declared.Field.TheVariants.{Text}
@@ -14,11 +14,11 @@ use Rattle.parse_rows.specs.declared.Row.{Row}
 use Rattle.parse_rows.specs.Rows.{table, cells, digits_at, field_at, op_at, row_at}
 
 pub field-rest : (k : ℕ) → (k ≡ 0 → ⊥) → (k ≡ 1 → ⊥) → (k ≡ 2 → ⊥) → (k ≡ 3 → ⊥) → (k ≡ 4 → ⊥) → (k ≡ 5 → ⊥) → (k ≡ 6 → ⊥) → (k ≡ 7 → ⊥) → (k ≡ 8 → ⊥) → (k ≡ 9 → ⊥) → Text ≡ field_at k
-unfolding field_at if◌then◌else◌
+unfolding field_at when◌then◌else◌
 field-rest k n0 n1 n2 n3 n4 n5 n6 n7 n8 n9 = rw (ne_eqb k 0 n0, ne_eqb k 1 n1, ne_eqb k 2 n2, ne_eqb k 3 n3, ne_eqb k 4 n4, ne_eqb k 5 n5, ne_eqb k 6 n6, ne_eqb k 7 n7, ne_eqb k 8 n8, ne_eqb k 9 n9)
 
 pub op-rest : (i : ℕ) → (i ≡ 32 → ⊥) → (i ≡ 33 → ⊥) → (i ≡ 34 → ⊥) → (i ≡ 35 → ⊥) → (i ≡ 36 → ⊥) → (i ≡ 37 → ⊥) → Instr ≡ op_at i
-unfolding op_at if◌then◌else◌
+unfolding op_at when◌then◌else◌
 op-rest i n32 n33 n34 n35 n36 n37 = rw (ne_eqb i 32 n32, ne_eqb i 33 n33, ne_eqb i 34 n34, ne_eqb i 35 n35, ne_eqb i 36 n36, ne_eqb i 37 n37)
 
 -- THE LAST ARM OF A MATCH

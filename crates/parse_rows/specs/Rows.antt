@@ -1,6 +1,6 @@
 -- The table of rows as the code has it. Assumes nothing.
 use Rattle.std.specs.Prelude.{ℕ, zero, suc, ◌+◌, ◌*◌, List, [], ◌∷◌, ◌≡◌, eqb, get_or}
-use Rattle.rules.specs.Base.{if◌then◌else◌, same}
+use Rattle.rules.specs.Base.{when◌then◌else◌, same}
 use Rattle.rules.specs.Words.{instr, orig, fill, blkw, stringz, end, external}
 use Rattle.rules.specs.Words as words
 use Rattle.parse_field.specs.declared.Field.{Field}
@@ -68,26 +68,26 @@ digits_at i = digits_from 0 (cells i)
 -- a field by its number
 unfoldable pub field_at : ℕ → Field
 field_at k =
-    if eqb k 0 then Dr else
-    if eqb k 1 then Sr else
-    if eqb k 2 then RegOrImm else
-    if eqb k 3 then Offset6 else
-    if eqb k 4 then Near9 else
-    if eqb k 5 then Near11 else
-    if eqb k 6 then Trap else
-    if eqb k 7 then Word else
-    if eqb k 8 then field.Fill else
-    if eqb k 9 then Name else Text
+    when eqb k 0 then Dr else
+    when eqb k 1 then Sr else
+    when eqb k 2 then RegOrImm else
+    when eqb k 3 then Offset6 else
+    when eqb k 4 then Near9 else
+    when eqb k 5 then Near11 else
+    when eqb k 6 then Trap else
+    when eqb k 7 then Word else
+    when eqb k 8 then field.Fill else
+    when eqb k 9 then Name else Text
 
 -- what the statement of a row does
 unfoldable pub op_at : ℕ → Op
 op_at i =
-    if eqb i 32 then Orig else
-    if eqb i 33 then Fill else
-    if eqb i 34 then Blkw else
-    if eqb i 35 then Stringz else
-    if eqb i 36 then End else
-    if eqb i 37 then External else Instr
+    when eqb i 32 then Orig else
+    when eqb i 33 then Fill else
+    when eqb i 34 then Blkw else
+    when eqb i 35 then Stringz else
+    when eqb i 36 then End else
+    when eqb i 37 then External else Instr
 
 unfoldable pub row_at : ℕ → Row
 row_at i = record {
@@ -130,4 +130,4 @@ pub record Means (c : Row) (r : words.Row) : Type 0 where
 -- the place of the first row with this key, counted from k
 unfoldable pub code_from : ℕ → List ℕ → List words.Row → ℕ
 code_from k w [] = k
-code_from k w (r ∷ rs) = if same w r.key then k else code_from (k + 1) w rs
+code_from k w (r ∷ rs) = when same w r.key then k else code_from (k + 1) w rs

@@ -11,7 +11,7 @@ use lib.Dec.{ltb}
 use lib.ListN.{length, get_or, set, length-set}
 use lib.Seq.{get_or-set_same, get_or-set_other}
 use borrow.Author.Tests.{lt-ltb, le-ltb}
-use Rattle.rules.specs.Base.{if◌then◌else◌, has, Outcome, ok, refuse, ◌>>=◌, Span}
+use Rattle.rules.specs.Base.{when◌then◌else◌, has, Outcome, ok, refuse, ◌>>=◌, Span}
 use Rattle.rules.specs.Tables.{Table, Tri, less, same, more, look, insert, put, newer, nat_order}
 use Rattle.rules.specs.Objects.{Name}
 use Rattle.rules.specs.Passes.{Pass1State, relocated}
@@ -102,16 +102,16 @@ count n rs src = length-tab n (note_row rs src)
 
 -- the rule, by its two tests
 abbrev by_tests : ℕ → Name → Span → Table ℕ Name → Bool → Bool → Outcome (Table ℕ Name)
-by_tests a m q t x y = if x || y then ok (insert nat_order newer (a, m) t) else refuse 40 q
+by_tests a m q t x y = when x || y then ok (insert nat_order newer (a, m) t) else refuse 40 q
 
 goes : (a : ℕ) (m : Name) (q : Span) (o : Pass1State) (t : Table ℕ Name) (x y : Bool) → o.relocs ≡ t → has (look nat_order t a) ≡ x → ltb (length t) 1024 ≡ y
     → relocated a m q o ≡ (by_tests a m q t x y >>= noting o)
-unfolding relocated if◌then◌else◌
+unfolding relocated when◌then◌else◌
 goes a m q o t x y r e f =
-    (λ i. if has (look nat_order (r i) a) || ltb (length (r i)) 1024 then noting o (insert nat_order newer (a, m) (r i)) else refuse 40 q)
-    ∙ ((λ i. if e i || f i then noting o (insert nat_order newer (a, m) t) else refuse 40 q) ∙ last (x || y))
+    (λ i. when has (look nat_order (r i) a) || ltb (length (r i)) 1024 then noting o (insert nat_order newer (a, m) (r i)) else refuse 40 q)
+    ∙ ((λ i. when e i || f i then noting o (insert nat_order newer (a, m) t) else refuse 40 q) ∙ last (x || y))
   where
-    last : (b : Bool) → (if b then noting o (insert nat_order newer (a, m) t) else refuse 40 q) ≡ ((if b then ok (insert nat_order newer (a, m) t) else refuse 40 q) >>= noting o)
+    last : (b : Bool) → (when b then noting o (insert nat_order newer (a, m) t) else refuse 40 q) ≡ ((when b then ok (insert nat_order newer (a, m) t) else refuse 40 q) >>= noting o)
     last true = refl
     last false = refl
 
@@ -120,7 +120,7 @@ full-no e = never cc
 
 -- NO ROW LEFT
 pub add-full : {rs src : List ℕ} {n a s l p : ℕ} {t : Bool} → Ready rs src n s l → Bound rs n a p → Decides (AtAddress rs n p a) t → t ≡ false → 1024 ≤ n → Adding rs src rs n a s l Full
-unfolding if◌then◌else◌
+unfolding when◌then◌else◌
 add-full {rs} {src} {n} {a} {s} {l} {p} v b d e h = record {
   rule = λ q o r. sym (goes a (name_from src s l) q o (notes n rs src) false false r (is-new n rs src p a b v.table (d.no e)) (ap (λ (m : ℕ). ltb m 1024) (count n rs src) ∙ le-ltb n 1024 h));
   table = λ m x. full-no x;
@@ -141,7 +141,7 @@ module _ {rs src rs' : List ℕ} {n a s l p : ℕ} {t : Bool} (v : Ready rs src 
       strict {x} {y} q r = elim (dec_lt x y) [ yes w ↦ w | no w ↦ absurd (r (omega arith)) ]
 
   pub add-new : Adding rs src rs' n a s l (Held (n + 1))
-  unfolding if◌then◌else◌ notes
+  unfolding when◌then◌else◌ notes
   add-new = record {
     rule = λ q o r. sym (goes a (name_from src s l) q o (notes n rs src) false true r (is-new n rs src p a b v.table (d.no e)) (ap (λ (m : ℕ). ltb m 1024) (count n rs src) ∙ lt-ltb n 1024 h)
         ∙ ap (noting o) (sym (table-new nat_order newer (note src) belongs i)));
@@ -217,7 +217,7 @@ module _ {rs src : List ℕ} {n a s l p : ℕ} {t : Bool} (v : Ready rs src n s 
   taken_in = omega (arith, v.table.room, (d.yes h).row)
 
   pub add-renamed : {rs' : List ℕ} → rs' ≡ set (set rs (p * 4 + 2) s) (p * 4 + 3) l → Adding rs src rs' n a s l (Held n)
-  unfolding if◌then◌else◌ notes
+  unfolding when◌then◌else◌ notes
   add-renamed {rs'} e = record {
     rule = λ q o r. sym (goes a (name_from src s l) q o (notes n rs src) true (ltb (length (notes n rs src)) 1024) r (is-there n rs src p a v.table (d.yes h)) refl
         ∙ ap (noting o) (sym (renamed v.table v.name (d.yes h) e)));

@@ -10,7 +10,7 @@ use native.Mathlib.Omega.{arith}
 use lib.Dec.{eqb, ltb}
 use lib.ListN.{length, get_or, take, drop}
 use borrow.Author.Tests.{eq-eqb, ne_eqb, lt-ltb, le-ltb}
-use Rattle.rules.specs.Base.{if◌then◌else◌, Outcome, ok, refuse, refuse2, Span}
+use Rattle.rules.specs.Base.{when◌then◌else◌, Outcome, ok, refuse, refuse2, Span}
 use Rattle.rules.specs.Tokens.{upper}
 use Rattle.rules.specs.Tables.{Table, look, insert, newer, name_order, before_irr}
 use Rattle.rules.specs.Objects.{Lab, address_of, Name}
@@ -106,22 +106,22 @@ count n rs src = length-tab n (symbol_row rs src)
 
 -- `add_label` by what the table says
 abbrev chosen : Lab → Span → S.Name → Table Name Symbol → Option Symbol → Outcome (Table Name Symbol)
-chosen v p n ss (some s) = if eqb (address_of s.lab) (address_of v) then ok ss else refuse2 25 s.place n.place
-chosen v p n ss none = if ltb (length ss) 1024 then ok (insert name_order newer (n.text, symbol v n.place) ss) else refuse 40 p
+chosen v p n ss (some s) = when eqb (address_of s.lab) (address_of v) then ok ss else refuse2 25 s.place n.place
+chosen v p n ss none = when ltb (length ss) 1024 then ok (insert name_order newer (n.text, symbol v n.place) ss) else refuse 40 p
 
 by-look : (v : Lab) (p : Span) (n : S.Name) (ss : Table Name Symbol) → add_label v p n ss ≡ chosen v p n ss (look name_order ss n.text)
 unfolding add_label
 by-look v p n ss = go (look name_order ss n.text)
   where
     go : (o : Option Symbol) → (elim o [
-      | some s ↦ if eqb (address_of s.lab) (address_of v) then ok ss else refuse2 25 s.place n.place
-      | none ↦ if ltb (length ss) 1024 then ok (insert name_order newer (n.text, symbol v n.place) ss) else refuse 40 p
+      | some s ↦ when eqb (address_of s.lab) (address_of v) then ok ss else refuse2 25 s.place n.place
+      | none ↦ when ltb (length ss) 1024 then ok (insert name_order newer (n.text, symbol v n.place) ss) else refuse 40 p
     ]) ≡ chosen v p n ss o
     go none = refl
     go (some s) = refl
 
-pick : {A : Type 0} (b c : Bool) (x y : A) → b ≡ c → (if b then x else y) ≡ (if c then x else y)
-pick b c x y e = ap (λ (t : Bool). if t then x else y) e
+pick : {A : Type 0} (b c : Bool) (x y : A) → b ≡ c → (when b then x else y) ≡ (when c then x else y)
+pick b c x y e = ap (λ (t : Bool). when t then x else y) e
 
 held-no : {A : Type 0} {k m : ℕ} → Clash k ≡ Held m → A
 held-no e = never cc
@@ -148,7 +148,7 @@ module _ {rs src : List ℕ} {n a f s l k b : ℕ} {r : Slot} (v : Ready rs src 
       address-of (get_or rs (k * 4) 0) (get_or rs (k * 4 + 1) 0) c.flag c.outside ∙ sym q
 
   pub add_kept : b ≡ a → Adding rs src rs n a f s l (Held n)
-  unfolding if◌then◌else◌
+  unfolding when◌then◌else◌
   add_kept h = record {
     rule = λ p. sym (by-look (lab_from a f) p (named_at src s l) (symbols n rs src) ∙ (ap (chosen (lab_from a f) p (named_at src s l) (symbols n rs src)) found
         ∙ pick _ true _ _ (eq-eqb _ _ (theirs ∙ (h ∙ sym own)))));
@@ -157,7 +157,7 @@ module _ {rs src : List ℕ} {n a f s l k b : ℕ} {r : Slot} (v : Ready rs src 
   }
 
   pub add-clash : (b ≡ a → ⊥) → Adding rs src rs n a f s l (Clash k)
-  unfolding if◌then◌else◌
+  unfolding when◌then◌else◌
   add-clash h = record {
     rule = λ p. sym (by-look (lab_from a f) p (named_at src s l) (symbols n rs src) ∙ (ap (chosen (lab_from a f) p (named_at src s l) (symbols n rs src)) found
         ∙ pick _ false _ _ (ne_eqb _ _ (λ (z : address_of (symbol_row rs src k).1.lab ≡ address_of (lab_from a f)). h (sym theirs ∙ (z ∙ own))))));
@@ -167,7 +167,7 @@ module _ {rs src : List ℕ} {n a f s l k b : ℕ} {r : Slot} (v : Ready rs src 
 
 module _ {rs src : List ℕ} {n a f s l p : ℕ} {r : Slot} (t : Slotted rs src n (name_from src s l) r) (e : r ≡ Free p) where
   pub add-full : 1024 ≤ n → Adding rs src rs n a f s l Full
-  unfolding if◌then◌else◌
+  unfolding when◌then◌else◌
   add-full h = record {
     rule = λ q. sym (by-look (lab_from a f) q (named_at src s l) (symbols n rs src)
         ∙ (ap (chosen (lab_from a f) q (named_at src s l) (symbols n rs src)) (unsaid rs src n p (name_from src s l) t e)
@@ -177,7 +177,7 @@ module _ {rs src : List ℕ} {n a f s l p : ℕ} {r : Slot} (t : Slotted rs src 
   }
 
   pub add-new : {rs' : List ℕ} → n < 1024 → Inserted rs src rs' n a f s l → Adding rs src rs' n a f s l (Held (n + 1))
-  unfolding if◌then◌else◌
+  unfolding when◌then◌else◌
   add-new h i = record {
     rule = λ q. sym (by-look (lab_from a f) q (named_at src s l) (symbols n rs src)
         ∙ (ap (chosen (lab_from a f) q (named_at src s l) (symbols n rs src)) (unsaid rs src n p (name_from src s l) t e)

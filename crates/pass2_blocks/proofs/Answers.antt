@@ -8,7 +8,7 @@ use native.Mathlib.Omega.{arith}
 use lib.ListN.{length, get_or, drop}
 use lib.Dec.{leb}
 use borrow.Author.Tests.{le-leb, lt-leb}
-use Rattle.rules.specs.Base.{if◌then◌else◌, ok, refuse2, span}
+use Rattle.rules.specs.Base.{when◌then◌else◌, ok, refuse2, span}
 use Rattle.rules.specs.Passes.{overlapping}
 use Rattle.rules.specs.Buffers.{head_row, sum_of, WordRow}
 use Rattle.rules.proofs.Bools.{never}
@@ -25,28 +25,28 @@ use Rattle.pass2_blocks.proofs.Inserted.{row-rest, sum-rise}
 use Rattle.pass2_blocks.proofs.Placed.{clash-rule, free-rule, view-new, sum-new}
 
 pub clash-first : (os : List ℕ) (k o₁ o₂ b e : ℕ) → b ≡ get_or os (k * 2) 0 → e ≡ get_or os (k * 2 + 1) 0 → o₁ ≤ b → P.Overlaps o₁ o₂ b e ≡ clash_of os k o₁ o₂
-unfolding clash_of if◌then◌else◌
+unfolding clash_of when◌then◌else◌
 clash-first os k o₁ o₂ b e eb ee h = let t : leb o₁ (get_or os (k * 2) 0) ≡ true = rw (← eb) (le-leb o₁ b h) in rw t (cc)
 
 pub clash-second : (os : List ℕ) (k o₁ o₂ b e : ℕ) → b ≡ get_or os (k * 2) 0 → e ≡ get_or os (k * 2 + 1) 0 → b < o₁ → P.Overlaps b e o₁ o₂ ≡ clash_of os k o₁ o₂
-unfolding clash_of if◌then◌else◌
+unfolding clash_of when◌then◌else◌
 clash-second os k o₁ o₂ b e eb ee h = let t : leb o₁ (get_or os (k * 2) 0) ≡ false = rw (← eb) (lt-leb o₁ b h) in rw t (cc)
 
 clash-says : (n : ℕ) (bs os' ws ms os : List ℕ) (k o₁ o₂ : ℕ) → outcome n bs os' ws ms (clash_of os k o₁ o₂) ≡ overlapping (span o₁ o₂) (orig_row os k)
-unfolding clash_of if◌then◌else◌ overlapping
+unfolding clash_of when◌then◌else◌ overlapping
 clash-says n bs os' ws ms os k o₁ o₂ = go (leb o₁ (get_or os (k * 2) 0))
   where
     go : (b : Bool)
-        → outcome n bs os' ws ms (if b then P.Overlaps o₁ o₂ (get_or os (k * 2) 0) (get_or os (k * 2 + 1) 0) else P.Overlaps (get_or os (k * 2) 0) (get_or os (k * 2 + 1) 0) o₁ o₂)
-        ≡ (if b then refuse2 28 (span o₁ o₂) (orig_row os k) else refuse2 28 (orig_row os k) (span o₁ o₂))
+        → outcome n bs os' ws ms (when b then P.Overlaps o₁ o₂ (get_or os (k * 2) 0) (get_or os (k * 2 + 1) 0) else P.Overlaps (get_or os (k * 2) 0) (get_or os (k * 2 + 1) 0) o₁ o₂)
+        ≡ (when b then refuse2 28 (span o₁ o₂) (orig_row os k) else refuse2 28 (orig_row os k) (span o₁ o₂))
     go true = refl
     go false = refl
 
 clash-not : (os : List ℕ) (k o₁ o₂ : ℕ) → clash_of os k o₁ o₂ ≡ P.Placed → ⊥
-unfolding clash_of if◌then◌else◌
+unfolding clash_of when◌then◌else◌
 clash-not os k o₁ o₂ = go (leb o₁ (get_or os (k * 2) 0))
   where
-    go : (b : Bool) → (if b then P.Overlaps o₁ o₂ (get_or os (k * 2) 0) (get_or os (k * 2 + 1) 0) else P.Overlaps (get_or os (k * 2) 0) (get_or os (k * 2 + 1) 0) o₁ o₂) ≡ P.Placed → ⊥
+    go : (b : Bool) → (when b then P.Overlaps o₁ o₂ (get_or os (k * 2) 0) (get_or os (k * 2 + 1) 0) else P.Overlaps (get_or os (k * 2) 0) (get_or os (k * 2 + 1) 0) o₁ o₂) ≡ P.Placed → ⊥
     go true e = never cc
     go false e = never cc
 

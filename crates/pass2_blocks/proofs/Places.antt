@@ -5,7 +5,7 @@ use mathlib.Core.Bool.{Bool, true, false}
 use mathlib.Core.List.{List, [], ◌∷◌, ◌++◌}
 use lib.ListN.{length}
 use lib.Dec.{ltb, leb}
-use Rattle.rules.specs.Base.{if◌then◌else◌, Outcome, ok, refuse2, ◌>>=◌, Span}
+use Rattle.rules.specs.Base.{when◌then◌else◌, Outcome, ok, refuse2, ◌>>=◌, Span}
 use Rattle.rules.specs.Passes.{ObjBlock, place, ranges_overlap, overlapping}
 use Rattle.rules.specs.Buffers.{tab}
 
@@ -18,33 +18,33 @@ pub record Far (x y : ObjBlock) : Type 0 where
   pub later : ltb x.start y.start ≡ false
 
 step : (x y : ObjBlock) (ys zs : List ObjBlock) → Far x y → place x ys ≡ ok zs → place x (y ∷ ys) ≡ ok (y ∷ zs)
-unfolding place if◌then◌else◌
+unfolding place when◌then◌else◌
 step x y ys zs f e =
-    λ i. if f.clear i then overlapping x.place y.place else if f.later i then ok (x ∷ y ∷ ys) else (e i >>= λ ts. ok (y ∷ ts))
+    λ i. when f.clear i then overlapping x.place y.place else when f.later i then ok (x ∷ y ∷ ys) else (e i >>= λ ts. ok (y ∷ ts))
 
 stays : (p q : Span) (g : List ObjBlock → Outcome (List ObjBlock)) → (overlapping p q >>= g) ≡ overlapping p q
-unfolding overlapping if◌then◌else◌
+unfolding overlapping when◌then◌else◌
 stays p q g = go (leb p.start q.start)
   where
-    go : (b : Bool) → ((if b then refuse2 28 p q else refuse2 28 q p) >>= g) ≡ (if b then refuse2 28 p q else refuse2 28 q p)
+    go : (b : Bool) → ((when b then refuse2 28 p q else refuse2 28 q p) >>= g) ≡ (when b then refuse2 28 p q else refuse2 28 q p)
     go true = refl
     go false = refl
 
 refused-step : (x y : ObjBlock) (ys : List ObjBlock) (p q : Span) → Far x y → place x ys ≡ overlapping p q → place x (y ∷ ys) ≡ overlapping p q
-unfolding place if◌then◌else◌
+unfolding place when◌then◌else◌
 refused-step x y ys p q f e =
-    (λ i. if f.clear i then overlapping x.place y.place else if f.later i then ok (x ∷ y ∷ ys) else (e i >>= λ ts. ok (y ∷ ts)))
+    (λ i. when f.clear i then overlapping x.place y.place else when f.later i then ok (x ∷ y ∷ ys) else (e i >>= λ ts. ok (y ∷ ts)))
     ∙ stays p q (λ ts. ok (y ∷ ts))
 
 pub place-hit : (x y : ObjBlock) (ys : List ObjBlock) → meets x y ≡ true → place x (y ∷ ys) ≡ overlapping x.place y.place
-unfolding place if◌then◌else◌
+unfolding place when◌then◌else◌
 place-hit x y ys e =
-    λ i. if e i then overlapping x.place y.place else if ltb x.start y.start then ok (x ∷ y ∷ ys) else (place x ys >>= λ ts. ok (y ∷ ts))
+    λ i. when e i then overlapping x.place y.place else when ltb x.start y.start then ok (x ∷ y ∷ ys) else (place x ys >>= λ ts. ok (y ∷ ts))
 
 pub place-first : (x y : ObjBlock) (ys : List ObjBlock) → meets x y ≡ false → ltb x.start y.start ≡ true → place x (y ∷ ys) ≡ ok (x ∷ y ∷ ys)
-unfolding place if◌then◌else◌
+unfolding place when◌then◌else◌
 place-first x y ys e l =
-    λ i. if e i then overlapping x.place y.place else if l i then ok (x ∷ y ∷ ys) else (place x ys >>= λ ts. ok (y ∷ ts))
+    λ i. when e i then overlapping x.place y.place else when l i then ok (x ∷ y ∷ ys) else (place x ys >>= λ ts. ok (y ∷ ts))
 
 pub place-last : (x : ObjBlock) → place x [] ≡ ok (x ∷ [])
 unfolding place

@@ -1,6 +1,6 @@
 -- A block is placed among those closed as the rules' `place` places it. Assumes nothing.
 use Rattle.std.specs.Prelude.{◌≡◌, List, ℕ, ◌+◌, ◌-◌, ◌*◌, ◌≤◌, ◌<◌, length, get_or, drop, leb}
-use Rattle.rules.specs.Base.{if◌then◌else◌, Outcome, ok, refuse2, span}
+use Rattle.rules.specs.Base.{when◌then◌else◌, Outcome, ok, refuse2, span}
 use Rattle.rules.specs.Passes.{ObjBlock, obj_block, place}
 use Rattle.rules.specs.Buffers.{head_row, sum_of, WordRow}
 use Rattle.base_rotate.specs.Turned.{turned}
@@ -33,7 +33,7 @@ pub record InsertedAt (bs os ws ms bs' os' ws' ms' : List ℕ) (n k at used a si
 -- the answer where the block overlaps row k: both .orig, earlier first
 unfoldable pub clash_of : List ℕ → (k o₁ o₂ : ℕ) → Placing
 clash_of os k o₁ o₂ =
-    if leb o₁ (get_or os (k * 2) 0) then P.Overlaps o₁ o₂ (get_or os (k * 2) 0) (get_or os (k * 2 + 1) 0)
+    when leb o₁ (get_or os (k * 2) 0) then P.Overlaps o₁ o₂ (get_or os (k * 2) 0) (get_or os (k * 2 + 1) 0)
     else P.Overlaps (get_or os (k * 2) 0) (get_or os (k * 2 + 1) 0) o₁ o₂
 
 -- what the answer says

@@ -8,7 +8,7 @@ use native.Mathlib.Omega.{arith}
 use lib.ListN.{length, get_or}
 use lib.Dec.{eqb}
 use borrow.Author.Tests.{eq-eqb, ne_eqb, eqb-true, eqb-false}
-use Rattle.rules.specs.Base.{if◌then◌else◌, Outcome, ok, refuse, refused, ◌>>=◌, Span, span, nowhere}
+use Rattle.rules.specs.Base.{when◌then◌else◌, Outcome, ok, refuse, refused, ◌>>=◌, Span, span, nowhere}
 use Rattle.rules.specs.Words.{Range, signed, fits, offset, reach, field, instr, fill}
 use Rattle.rules.specs.Tables.{Table, look, name_order}
 use Rattle.rules.specs.Objects.{Cell, word, outer, defined, Lab, address_of}
@@ -41,27 +41,27 @@ row-found rs src n st s l x y r h = rw (x, y) at h
 -- THE OFFSET, whatever its place
 module _ (f : Range) (l n : ℕ) (p : Span) where
   reached : (d : ℕ) → ok d ≡ reach f l n nowhere → reach f l n p ≡ ok d
-  unfolding reach if◌then◌else◌
+  unfolding reach when◌then◌else◌
   reached d e = go (fits f (offset l n)) e
     where
-      go : (b : Bool) → ok d ≡ (if b then ok (offset l n) else refuse 29 nowhere) → (if b then ok (offset l n) else refuse 29 p) ≡ ok d
+      go : (b : Bool) → ok d ≡ (when b then ok (offset l n) else refuse 29 nowhere) → (when b then ok (offset l n) else refuse 29 p) ≡ ok d
       go true q = sym q
       go false q = never cc
 
   unreached : refuse 29 nowhere ≡ reach f l n nowhere → reach f l n p ≡ refuse 29 p
-  unfolding reach if◌then◌else◌
+  unfolding reach when◌then◌else◌
   unreached e = go (fits f (offset l n)) e
     where
-      go : (b : Bool) → refuse 29 nowhere ≡ (if b then ok (offset l n) else refuse 29 nowhere) → (if b then ok (offset l n) else refuse 29 p) ≡ refuse 29 p
+      go : (b : Bool) → refuse 29 nowhere ≡ (when b then ok (offset l n) else refuse 29 nowhere) → (when b then ok (offset l n) else refuse 29 p) ≡ refuse 29 p
       go true q = never cc
       go false q = refl
 
 near_of : (r : ℕ) → r ≡ 512 → field_of r ≡ signed 9
-unfolding if◌then◌else◌
+unfolding when◌then◌else◌
 near_of r e = rw (eq-eqb r 512 e)
 
 far-of : (r : ℕ) → (r ≡ 512 → ⊥) → field_of r ≡ signed 11
-unfolding if◌then◌else◌
+unfolding when◌then◌else◌
 far-of r e = rw (ne_eqb r 512 e)
 
 module _ (st : Statement) (l n : ℕ) (z : Replaced) where
@@ -238,10 +238,10 @@ module _ (ss : Table objects.Name Symbol) (a : ℕ) (s : Stmt) where
         go (some u) q = let w : u ≡ t = cc in rw w
 
 aim-of : (src : List ℕ) (st : Statement) (o : Option Target) (x : Aimed src st o) → st.op ≡ Instr → x.target ≡ record { field = field_of st.reach; name = label_of src st }
-unfolding if◌then◌else◌
+unfolding when◌then◌else◌
 aim-of src st o x i = go (eqb st.reach 512) refl
   where
-    go : (b : Bool) → eqb st.reach 512 ≡ b → x.target ≡ record { field = if b then signed 9 else signed 11; name = label_of src st }
+    go : (b : Bool) → eqb st.reach 512 ≡ b → x.target ≡ record { field = when b then signed 9 else signed 11; name = label_of src st }
     go true q = let f = x.near i (eqb-true st.reach 512 q) in λ c. record { field = f c; name = x.name c }
     go false q = let f = x.far i (eqb-false st.reach 512 q) in λ c. record { field = f c; name = x.name c }
 

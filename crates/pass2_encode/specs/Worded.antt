@@ -1,6 +1,6 @@
 -- The word of a statement as the rules' `words_of` gives it, from what the code's statement holds. Assumes nothing.
 use Rattle.std.specs.Prelude.{◌≡◌, List, [], ◌∷◌, ℕ, ◌+◌, ◌-◌, ◌≤◌, ◌<◌, length, eqb}
-use Rattle.rules.specs.Base.{if◌then◌else◌, Outcome, ok, refuse, ◌>>=◌, span}
+use Rattle.rules.specs.Base.{when◌then◌else◌, Outcome, ok, refuse, ◌>>=◌, span}
 use Rattle.rules.specs.Words.{Range, signed, reach, field}
 use Rattle.rules.specs.Tables.{Table}
 use Rattle.rules.specs.Objects.{Cell, word}
@@ -24,7 +24,7 @@ label_of src st = name_between src st.label_start st.label_end
 
 -- an instruction's field, by how many values it has
 abbrev pub field_of : ℕ → Range
-field_of r = if eqb r 512 then signed 9 else signed 11
+field_of r = when eqb r 512 then signed 9 else signed 11
 
 -- an instruction's word with an offset
 unfoldable pub offset_word : Statement → ℕ → ℕ → Outcome (List Cell)

@@ -8,7 +8,7 @@ use native.Mathlib.Omega.{arith}
 use borrow.Author.Tests.{eq-eqb, ne_eqb}
 use lib.ListN.{length, get_or, drop}
 use lib.Seq.{get_or-drop}
-use Rattle.rules.specs.Base.{if◌then◌else◌, Outcome, ok, ◌>>=◌, span}
+use Rattle.rules.specs.Base.{when◌then◌else◌, Outcome, ok, ◌>>=◌, span}
 use Rattle.rules.specs.Passes.{ObjBlock, obj_block, pass2_state, place, finish}
 use Rattle.base_refusals.specs.Refusals.{refusal}
 use Rattle.pass2_blocks.specs.Rows.{cells_at, view_obj_blocks}
@@ -42,11 +42,11 @@ unfolding finish
 finish-none bl = refl
 
 finish-empty : (x : ObjBlock) (bl : List ObjBlock) → length x.words ≡ 0 → finish (pass2_state (some x) bl) ≡ ok (pass2_state none bl)
-unfolding finish if◌then◌else◌
+unfolding finish when◌then◌else◌
 finish-empty x bl e = rw (eq-eqb (length x.words) 0 e)
 
 finish-more : (x : ObjBlock) (bl : List ObjBlock) → (length x.words ≡ 0 → ⊥) → finish (pass2_state (some x) bl) ≡ (place x bl >>= λ bs. ok (pass2_state none bs))
-unfolding finish if◌then◌else◌
+unfolding finish when◌then◌else◌
 finish-more x bl e = rw (ne_eqb (length x.words) 0 e)
 
 -- what stands behind a place is as it was

@@ -7,7 +7,7 @@ use mathlib.Core.Option.{Option, none, some}
 use native.Mathlib.Omega.{arith}
 use lib.ListN.{length}
 use borrow.Author.Tests.{eqb-true, ne_eqb}
-use Rattle.rules.specs.Base.{if◌then◌else◌, Outcome, ok, refused, Refusal, Span, has}
+use Rattle.rules.specs.Base.{when◌then◌else◌, Outcome, ok, refused, Refusal, Span, has}
 use Rattle.rules.specs.Tokens.{Token, Kind, number, register, mark, word, directive, text, next_token}
 use Rattle.rules.specs.Statements.{Name, is_mark, as_label, as_word, as_name, name_at, token_is, stop_at, past_lines, past_colon, label_at, past_label, labels_from, labels_at, past_labels}
 use Rattle.rules.proofs.Next.{next-induction}
@@ -103,12 +103,12 @@ module _ (s : List ℕ) (i : ℕ) where
 
   -- A COLON
   pub colon-on : token_is (is_mark 58) s i ≡ true → past_colon s i ≡ stop_at s i
-  unfolding past_colon if◌then◌else◌
-  colon-on e = rw (e, if◌then◌else◌)
+  unfolding past_colon when◌then◌else◌
+  colon-on e = rw (e, when◌then◌else◌)
 
   pub colon-done : token_is (is_mark 58) s i ≡ false → past_colon s i ≡ i
-  unfolding past_colon if◌then◌else◌
-  colon-done e = rw (e, if◌then◌else◌)
+  unfolding past_colon when◌then◌else◌
+  colon-done e = rw (e, when◌then◌else◌)
 
   colon-in : i ≤ length s → (i ≤ past_colon s i) × (past_colon s i ≤ length s)
   colon-in h = go (token_is (is_mark 58) s i) refl

@@ -8,7 +8,7 @@ use native.Mathlib.Omega.{arith}
 use borrow.Author.Tests.{lt-ltb, le-ltb}
 use lib.Dec.{ltb}
 use lib.ListN.{take, drop}
-use Rattle.rules.specs.Base.{if◌then◌else◌}
+use Rattle.rules.specs.Base.{when◌then◌else◌}
 use Rattle.rules.specs.Regex.{Regex, null, after, dead, longest}
 use Rattle.rules.specs.Patterns.{Row, best}
 use Rattle.rules.specs.Tokens.{Match}
@@ -47,12 +47,12 @@ module _ (r : Row) (rs : List Row) (n : ℕ) (m : Match) (s : List ℕ) where
   row-less {k} e h = best-at e ∙ rw (le-ltb n k h, pick)
 
   -- a row whose match is empty at most
-  row-empty : (b : Bool) → longest r.pattern s ≡ (if b then some 0 else none) → best (r ∷ rs) n m s ≡ best rs n m s
-  unfolding if◌then◌else◌
+  row-empty : (b : Bool) → longest r.pattern s ≡ (when b then some 0 else none) → best (r ∷ rs) n m s ≡ best rs n m s
+  unfolding when◌then◌else◌
   row-empty true e = row-less e (omega arith)
   row-empty false e = row-none e
 
-longest-dead : (r : Regex) (c : ℕ) (s : List ℕ) → dead (after c r) ≡ true → longest r (c ∷ s) ≡ (if null r then some 0 else none)
+longest-dead : (r : Regex) (c : ℕ) (s : List ℕ) → dead (after c r) ≡ true → longest r (c ∷ s) ≡ (when null r then some 0 else none)
 unfolding longest
 longest-dead r c s e = dead-step r none 0 c s e
 

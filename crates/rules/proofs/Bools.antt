@@ -3,21 +3,21 @@ use mathlib.Core.Path.{◌≡◌, refl}
 use mathlib.Core.Bool.{Bool, true, false, ◌&&◌}
 use Prim.Native.Nat.{ℕ}
 use native.Mathlib.Omega.{arith}
-use Rattle.rules.specs.Base.{if◌then◌else◌}
+use Rattle.rules.specs.Base.{when◌then◌else◌}
 
 -- from a false equation between constructors, which `cc` turns into 0 ≡ 1, anything follows
 pub never : {A : Type 0} → ◌≡◌ {A = ℕ} 0 1 → A
 never z = absurd (omega (arith, z))
 
 -- what holds of both choices holds of the choice
-pub either : {A : Type 0} (P : A → Type 0) (b : Bool) {x y : A} → P x → P y → P (if b then x else y)
-unfolding if◌then◌else◌
+pub either : {A : Type 0} (P : A → Type 0) (b : Bool) {x y : A} → P x → P y → P (when b then x else y)
+unfolding when◌then◌else◌
 either P true p q = p
 either P false p q = q
 
 -- the same where the first choice may use the test
-pub either-if : {A : Type 0} (P : A → Type 0) (b : Bool) {x y : A} → (b ≡ true → P x) → P y → P (if b then x else y)
-unfolding if◌then◌else◌
+pub either-if : {A : Type 0} (P : A → Type 0) (b : Bool) {x y : A} → (b ≡ true → P x) → P y → P (when b then x else y)
+unfolding when◌then◌else◌
 either-if P true p q = p refl
 either-if P false p q = q
 

@@ -8,7 +8,7 @@ use mathlib.Core.Path.{◌≡◌, refl, ap, sym, subst, ◌∙◌}
 use lib.Dec.{eqb, leb, ltb}
 use lib.ListN.{get_or}
 use borrow.Author.Tests.{le-ltb, lt-ltb, le-leb, leb-true, eq-eqb, eqb-true, eqb-false, ne_eqb}
-use Rattle.rules.specs.Base.{if◌then◌else◌, same}
+use Rattle.rules.specs.Base.{when◌then◌else◌, same}
 use Rattle.rules.specs.Words.{Range, signed, unsigned, Field, reg, reg_or_imm, num, near, DR, SR, instructions, find, fits, field, extend, Operand, register, value, Instr, ADD, AND, NOT, BR, JMP, JSRR, JSR, NOP, LD, LDI, LEA, ST, STI, LDR, STR, TRAP, RET, RTI, GETC, OUT, PUTC, PUTS, IN, PUTSP, HALT, bits, ◌⊕◌, joined, made, branch, word, cases, at9, at6, low, last, trap, equals, exactly, disassemble, Shown, itself, out, ret, getc, putc, puts, in', putsp, halt, nop, br, Width}
 use Rattle.rules.proofs.Fields.{by-test, field_below, extend-field, field-unsigned, below-unsigned}
 use Rattle.rules.proofs.Bools.{never}
@@ -20,17 +20,17 @@ equal none w e = never cc
 equal (some v) w e = ap some (eqb-true v w e)
 
 exact : (w : ℕ) (c : Option Instr) (i : Instr) → exactly w c ≡ some i → word i ≡ some w
-unfolding exactly if◌then◌else◌
+unfolding exactly when◌then◌else◌
 exact w none i e = never cc
 exact w (some j) i e = same (equals (word j) w) refl e where
-  same : (t : Bool) → equals (word j) w ≡ t → (if t then some j else none) ≡ some i → word i ≡ some w
+  same : (t : Bool) → equals (word j) w ≡ t → (when t then some j else none) ≡ some i → word i ≡ some w
   same true q e = let k : j ≡ i = cc in ap word (sym k) ∙ equal (word j) w q
   same false q e = never cc
 
 pub disassembled-encodes : (w : ℕ) (i : Instr) → disassemble w ≡ some i → word i ≡ some w
-unfolding disassemble if◌then◌else◌
+unfolding disassemble when◌then◌else◌
 disassembled-encodes w i e = above (ltb w 512) e where
-  above : (t : Bool) → (if t then none else exactly w (get_or (cases w) (w / 4096) none)) ≡ some i → word i ≡ some w
+  above : (t : Bool) → (when t then none else exactly w (get_or (cases w) (w / 4096) none)) ≡ some i → word i ≡ some w
   above true e = never cc
   above false e = exact w (get_or (cases w) (w / 4096) none) i e
 
@@ -47,8 +47,8 @@ joined-none (f ∷ fs) [] = refl
 joined-none (f ∷ fs) (o ∷ os) = joined-none fs os
 
 module _ (w : ℕ) (fs : List Field) (os : List Operand) (v : ℕ) where
-  peel : (f : Field) (o : Operand) (t : Bool) (n : ℕ) → bits f o ≡ (if t then some n else none) → joined (some w) (f ∷ fs) (o ∷ os) ≡ some v → Peeled t (w + n) fs os v
-  unfolding joined if◌then◌else◌ ◌⊕◌
+  peel : (f : Field) (o : Operand) (t : Bool) (n : ℕ) → bits f o ≡ (when t then some n else none) → joined (some w) (f ∷ fs) (o ∷ os) ≡ some v → Peeled t (w + n) fs os v
+  unfolding joined when◌then◌else◌ ◌⊕◌
   peel f o true n b e = record { holds = refl; rest = subst (λ (x : Option ℕ). joined (some w ⊕ x) fs os ≡ some v) b e }
   peel f o false n b e =
       let h : joined none fs os ≡ some v = subst (λ (x : Option ℕ). joined (some w ⊕ x) fs os ≡ some v) b e in
@@ -80,7 +80,7 @@ done w v e = cc
 
 -- the case of the word's four high bits is the instruction whose word it is
 pub found : (k : ℕ) (i : Instr) (w : ℕ) → 512 ≤ w → w / 4096 ≡ k → get_or (cases w) k none ≡ some i → word i ≡ some w → disassemble w ≡ some i
-unfolding disassemble exactly equals if◌then◌else◌
+unfolding disassemble exactly equals when◌then◌else◌
 found k i w l p c e = rw (le-ltb w 512 l, p, c, e, eq-eqb w w refl)
 
 -- widths, and a number in the low bits, read back
@@ -142,7 +142,7 @@ record Three (k d s : ℕ) (o : Operand) (w : ℕ) : Type 0 where
   pub third : last w ≡ o
 
 three : (k d s : ℕ) (o : Operand) (w : ℕ) → joined (some (k * 4096)) (DR ∷ SR ∷ reg_or_imm ∷ []) (register d ∷ register s ∷ o ∷ []) ≡ some w → Three k d s o w
-unfolding if◌then◌else◌
+unfolding when◌then◌else◌
 three k d s (register t) w e =
     let x = of-reg _ _ _ _ 512 d e in
     let y = of-reg _ _ _ _ 64 s x.rest in
@@ -233,7 +233,7 @@ eleven o w e =
 
 -- a jump by R7 is a return
 jump-shows : (b w : ℕ) → Base 12 b w → word (JMP b) ≡ some w → Shown (JMP b) (disassemble w)
-unfolding cases if◌then◌else◌ word made find instructions joined disassemble exactly equals
+unfolding cases when◌then◌else◌ word made find instructions joined disassemble exactly equals
 jump-shows b w h e =
     by-test (eqb b 7)
     (λ t.
@@ -246,7 +246,7 @@ jump-shows b w h e =
 
 -- what is below x0200 is a fill
 fill : (w : ℕ) → w < 512 → disassemble w ≡ none
-unfolding disassemble if◌then◌else◌
+unfolding disassemble when◌then◌else◌
 fill w l = rw (lt-ltb w 512 l)
 
 low9 : (b o w : ℕ) → joined (some b) (near (signed 9) ∷ []) (value o ∷ []) ≡ some w → (fits (signed 9) o ≡ true) × (field (signed 9) o < 512) × (w ≡ b + field (signed 9) o)
@@ -268,7 +268,7 @@ branched c o w l m e f =
     as_is _ w (found 0 _ w (omega arith) (omega arith) (rw (n, t)) f)
 
 branch-shows : (c o w : ℕ) → word (BR c o) ≡ some w → Shown (BR c o) (disassemble w)
-unfolding word made find instructions branch if◌then◌else◌
+unfolding word made find instructions branch when◌then◌else◌
 branch-shows zero o w e = subst (Shown (BR 0 o)) (sym (below o w e)) (br o)
 branch-shows (suc zero) o w e = branched 1 o w (omega arith) (omega arith) e e
 branch-shows (suc (suc zero)) o w e = branched 2 o w (omega arith) (omega arith) e e
@@ -284,13 +284,13 @@ numbered : (v u w x : ℕ) → v ≡ u → w ≡ x → Shown (TRAP u) (disassemb
 numbered v u w x p q h = subst (λ (y : ℕ). Shown (TRAP y) (disassemble w)) (sym p) (subst (λ (y : ℕ). Shown (TRAP u) (disassemble y)) (sym q) h)
 
 trapped : (v w : ℕ) → v ≤ 255 → w ≡ 0xf000 + v → trap v ≡ TRAP v → word (TRAP v) ≡ some w → Shown (TRAP v) (disassemble w)
-unfolding cases if◌then◌else◌
+unfolding cases when◌then◌else◌
 trapped v w l s t e =
     let n : w % 256 ≡ v = omega arith in
     as_is _ w (found 15 _ w (omega arith) (omega arith) (ap some (ap trap n ∙ t)) e)
 
 named : (k v w : ℕ) → v ≡ 32 + k → v ≤ 255 → w ≡ 0xf000 + v → word (TRAP v) ≡ some w → Shown (TRAP v) (disassemble w)
-unfolding word made find instructions joined disassemble exactly equals cases if◌then◌else◌
+unfolding word made find instructions joined disassemble exactly equals cases when◌then◌else◌
 named zero v w p l q e = numbered v 0x20 w 0xf020 (omega arith) (omega arith) getc
 named (suc zero) v w p l q e = numbered v 0x21 w 0xf021 (omega arith) (omega arith) putc
 named (suc (suc zero)) v w p l q e = numbered v 0x22 w 0xf022 (omega arith) (omega arith) puts
@@ -302,7 +302,7 @@ named (suc (suc (suc (suc (suc (suc k)))))) v w p l q e =
     trapped v w l q (rw (le-leb 32 v (omega arith), s)) e
 
 trap-shows : (v w : ℕ) → joined (some 0xf000) (num (unsigned 8) ∷ []) (value v ∷ []) ≡ some w → word (TRAP v) ≡ some w → Shown (TRAP v) (disassemble w)
-unfolding if◌then◌else◌
+unfolding when◌then◌else◌
 trap-shows v w e f =
     let x = of_num _ _ _ _ (unsigned 8) v e in
     let s = done _ _ x.rest in
@@ -317,7 +317,7 @@ even : (b w : ℕ) → b ≤ 7 → w ≡ 4 * 4096 + b * 64 → w / 2048 % 2 ≡ 
 even b w l e = let q : w / 2048 ≡ 8 = omega arith in omega arith
 
 pub encoded-shows : (i : Instr) (w : ℕ) → word i ≡ some w → Shown i (disassemble w)
-unfolding word made find instructions joined if◌then◌else◌ cases disassemble exactly equals
+unfolding word made find instructions joined when◌then◌else◌ cases disassemble exactly equals
 encoded-shows (ADD d s o) w e = let h = three 1 d s o w e in as_is _ w (found 1 _ w (omega arith) h.op (rw (h.first, h.second, h.third)) e)
 encoded-shows (AND d s o) w e = let h = three 5 d s o w e in as_is _ w (found 5 _ w (omega arith) h.op (rw (h.first, h.second, h.third)) e)
 encoded-shows (NOT d s) w e = let h = negation d s w e in as_is _ w (found 9 _ w (omega arith) h.op (rw (h.first, h.second)) e)
@@ -351,11 +351,11 @@ encoded-shows HALT w e = fixed HALT 0xf025 w refl (itself HALT) e
 
 -- x21 as PUTC, xC1C0 as RET; fills: another word than its instruction's, every word below x0200, opcode D
 pub named-words : (disassemble 0xf021 ≡ some PUTC) × (disassemble 0xc1c0 ≡ some RET)
-unfolding word made find instructions joined disassemble exactly equals cases if◌then◌else◌
+unfolding word made find instructions joined disassemble exactly equals cases when◌then◌else◌
 named-words = (refl, refl)
 
 pub fill-words : (disassemble 0xc8c0 ≡ none) × (disassemble 0x01ff ≡ none) × (disassemble 0xd000 ≡ none)
-unfolding word made find instructions joined bits ◌⊕◌ disassemble exactly equals cases if◌then◌else◌
+unfolding word made find instructions joined bits ◌⊕◌ disassemble exactly equals cases when◌then◌else◌
 fill-words = (refl, refl, refl)
 
 -- an instruction's word is sixteen bits
@@ -366,7 +366,7 @@ low_word : (b o w : ℕ) → b + 512 ≤ 65536 → joined (some b) (near (signed
 low_word b o w l e = let h = low9 b o w e in omega arith
 
 branch-word : (c o w : ℕ) → word (BR c o) ≡ some w → w < 65536
-unfolding word made find instructions branch if◌then◌else◌
+unfolding word made find instructions branch when◌then◌else◌
 branch-word zero o w e = low_word 0 o w (omega arith) e
 branch-word (suc zero) o w e = low_word 512 o w (omega arith) e
 branch-word (suc (suc zero)) o w e = low_word 1024 o w (omega arith) e
@@ -387,7 +387,7 @@ trap-word v w e =
     omega arith
 
 pub word_below : (i : Instr) (w : ℕ) → word i ≡ some w → w < 65536
-unfolding word made find instructions joined if◌then◌else◌
+unfolding word made find instructions joined when◌then◌else◌
 word_below (ADD d s o) w e = let h = three 1 d s o w e in omega arith
 word_below (AND d s o) w e = let h = three 5 d s o w e in omega arith
 word_below (NOT d s) w e = let h = negation d s w e in omega arith

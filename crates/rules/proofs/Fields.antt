@@ -9,7 +9,7 @@ use mathlib.Core.Path.{◌≡◌, refl, ap, sym, ◌∙◌}
 use lib.Dec.{leb, ltb}
 use lib.Pow.{pow_pos, high_ones, pow_mono}
 use borrow.Author.Tests.{lt-ltb, le-ltb, le-leb, lt-leb, leb-true, ltb-true, ltb-false}
-use Rattle.rules.specs.Base.{if◌then◌else◌}
+use Rattle.rules.specs.Base.{when◌then◌else◌}
 use Rattle.rules.specs.Tokens.{Num, plus, minus}
 use Rattle.rules.specs.Statements.{in_range, reduced}
 use Rattle.rules.specs.Words.{Range, signed, unsigned, num, offset, fits, field, extend, value, bits, Width}
@@ -70,11 +70,11 @@ module _ (w : ℕ) (ok : Width w) where
   high_bits b l = ap (λ (k : ℕ). (b + k) % 2 ^ w) times ∙ add-mul-mod_self_right b (2 ^ (16 - w) - 1) (2 ^ w) ∙ mod-eq_of_lt l
 
   extend-low : (b : ℕ) → b < 2 ^ (w - 1) → extend w b ≡ b
-  unfolding extend if◌then◌else◌
+  unfolding extend when◌then◌else◌
   extend-low b l = rw (lt-ltb b (2 ^ (w - 1)) l)
 
   extend-high : (b : ℕ) → 2 ^ (w - 1) ≤ b → extend w b ≡ b + (65536 - 2 ^ w)
-  unfolding extend if◌then◌else◌
+  unfolding extend when◌then◌else◌
   extend-high b l = rw (le-ltb b (2 ^ (w - 1)) l)
 
   -- encoding undoes decoding
@@ -172,5 +172,5 @@ module _ (w : ℕ) (ok : Width w) where
 
     -- so a number that is read adds to its statement's word what it adds to the instruction's
     pub read-bits : (n : Num) → in_range r n ≡ true → bits (num r) (value (sixteen n)) ≡ some (reduced r n)
-    unfolding bits if◌then◌else◌
+    unfolding bits when◌then◌else◌
     read-bits n e = rw (number_fits n e, number-field n e)

@@ -11,7 +11,7 @@ use borrow.Author.Tests.{eqb-true, not-true, not-false}
 use lib.Dec.{eqb, ltb}
 use lib.ListN.{length, take, drop, length-take}
 use lib.Seq.{drop-drop}
-use Rattle.rules.specs.Base.{if◌then◌else◌, is}
+use Rattle.rules.specs.Base.{when◌then◌else◌, is}
 use Rattle.rules.specs.Regex.{Regex, fail, empty, byte, ◌then◌, ◌or◌, star, null, after, longest, longest_from, matching}
 use Rattle.rules.specs.Patterns.{c1, or1, d, w*, maybe, some1, best}
 use Rattle.rules.specs.Tokens.{Match, match, Found, token, word, bad, while, begins, wordy, digit, letter, upper, value, read, dec, number_after, wrong_after, word_at, after_x, after_minus, after_hash, after_r, reg, blank, mark, space, directive, directive_after, after_quote, dec_neg, hex, hex_neg}
@@ -42,17 +42,17 @@ made :
 made r f p n t k e q = sized r _ t k e ∙ rw q (ap (λ (w : List ℕ). match (f w) (n + length (while p (drop n t)))) (drop-taken p n t))
 
 -- both choices of a test, each with what it knows of the test
-pub by-test : {A : Type 0} (P : A → Type 0) (b : Bool) {x y : A} → (b ≡ true → P x) → (b ≡ false → P y) → P (if b then x else y)
-unfolding if◌then◌else◌
+pub by-test : {A : Type 0} (P : A → Type 0) (b : Bool) {x y : A} → (b ≡ true → P x) → (b ≡ false → P y) → P (when b then x else y)
+unfolding when◌then◌else◌
 by-test P true p q = p refl
 by-test P false p q = q refl
 
-pub if_yes : {A : Type 0} {b : Bool} (x y : A) → b ≡ true → (if b then x else y) ≡ x
-unfolding if◌then◌else◌
+pub if_yes : {A : Type 0} {b : Bool} (x y : A) → b ≡ true → (when b then x else y) ≡ x
+unfolding when◌then◌else◌
 if_yes x y e = rw e
 
-pub if_no : {A : Type 0} {b : Bool} (x y : A) → b ≡ false → (if b then x else y) ≡ y
-unfolding if◌then◌else◌
+pub if_no : {A : Type 0} {b : Bool} (x y : A) → b ≡ false → (when b then x else y) ≡ y
+unfolding when◌then◌else◌
 if_no x y e = rw e
 
 -- what holds of the byte k holds of a byte that is k
@@ -99,7 +99,7 @@ unfolding matching
 newline-alone [] = refl
 newline-alone (x ∷ s) = refl
 
-newline-after : (s : List ℕ) → longest (maybe (c1 "\r") then c1 "\n") (13 ∷ s) ≡ (if begins (is "\n") s then some 2 else none)
+newline-after : (s : List ℕ) → longest (maybe (c1 "\r") then c1 "\n") (13 ∷ s) ≡ (when begins (is "\n") s then some 2 else none)
 unfolding matching
 newline-after s = one_of (is "\n") 1 s
 
@@ -212,13 +212,13 @@ module _ (c : ℕ) (s : List ℕ) where
       number-row : longest (c1 "#" then maybe d then w*) (c ∷ s) ≡ some (1 + length (while wordy s))
       number-row = class-maybe (is "#") digit wordy digit-wordy c s e
 
-      minus-row : longest (c1 "#" then c1 "-" then w*) (c ∷ s) ≡ (if begins (is "-") s then some (2 + length (while wordy (drop 1 s))) else none)
+      minus-row : longest (c1 "#" then c1 "-" then w*) (c ∷ s) ≡ (when begins (is "-") s then some (2 + length (while wordy (drop 1 s))) else none)
       minus-row = class2-star (is "#") (is "-") wordy c s e
 
-      hash-row : longest (c1 "#" then some1 (c1 "#") then maybe (c1 "-") then w*) (c ∷ s) ≡ (if begins (is "#") s then longest_from minus-word none (1 + hashes) (drop hashes s) else none)
+      hash-row : longest (c1 "#" then some1 (c1 "#") then maybe (c1 "-") then w*) (c ∷ s) ≡ (when begins (is "#") s then longest_from minus-word none (1 + hashes) (drop hashes s) else none)
       hash-row = class-plus (is "#") (is "#") minus-word null-minus hash-ends-minus c s e
 
-      rest : longest_from minus-word none (1 + hashes) (drop hashes s) ≡ (if begins (is "-") (drop hashes s) then some (1 + hashes + 1 + length (while wordy (drop 1 (drop hashes s)))) else some (1 + hashes + length (while wordy (drop hashes s))))
+      rest : longest_from minus-word none (1 + hashes) (drop hashes s) ≡ (when begins (is "-") (drop hashes s) then some (1 + hashes + 1 + length (while wordy (drop 1 (drop hashes s)))) else some (1 + hashes + length (while wordy (drop hashes s))))
       rest = maybe-apart (is "-") wordy (is-so 45 wordy minus-plain) none (1 + hashes) (drop hashes s)
 
       with-minus : 1 + hashes + 1 + length (while wordy (drop 1 (drop hashes s))) ≡ hashes + 2 + length (while wordy (drop (hashes + 1) s))
@@ -300,7 +300,7 @@ module _ (c : ℕ) (s : List ℕ) where
   unfolding rows_at
   lf-rows e = rw (eqb-true c 10 e) (row_more _ _ 0 _ (10 ∷ s) (newline-alone s) (omega arith) ∙ rows_end _ _ _)
 
-  pub cr-rows : is "\r" c ≡ true → From (16 ∷ []) (if begins (is "\n") s then match (token (mark 10)) 2 else match (bad 10) 1)
+  pub cr-rows : is "\r" c ≡ true → From (16 ∷ []) (when begins (is "\n") s then match (token (mark 10)) 2 else match (bad 10) 1)
   unfolding rows_at
   cr-rows e =
       rw (eqb-true c 13 e)

@@ -9,7 +9,7 @@ use native.Mathlib.Omega.{arith}
 use lib.Dec.{ltb, leb}
 use lib.ListN.{length, get_or, length-append}
 use borrow.Author.Tests.{ltb-true, ltb-false, leb-true}
-use Rattle.rules.specs.Base.{if◌then◌else◌}
+use Rattle.rules.specs.Base.{when◌then◌else◌}
 use Rattle.rules.specs.Tables.{Table, nat_order, name_order}
 use Rattle.rules.specs.Objects.{Cell, unset, word, Lab, outer, defined, address_of, Name, Object, Counts, counts_of, flat, cells, heads, cell_at, lab_of, rel_at, label_token, good_name, Good, Full}
 use Rattle.rules.specs.Buffers.{Buffers, short, least, lent_words, tab, lay, head_row, name_row, label_row, reloc_row, view, view_relocs, head_cells, word_of, mark_of, flag_of, name_bytes, label_cells, row_of, reloc_cells, lay_blocks, lay_words, lay_marks, lay_labels, lay_relocs, lay_names, layout, end_of, BlockRow, BlocksOk, WordRow, WordsOk, LabelRow, LabelsOk, RelocRow, RelocsOk, Valid}
@@ -232,18 +232,18 @@ neither true q e = never cc
 neither false q e = (refl, e)
 
 pub least-left : (m n : ℕ) → least m n ≤ m
-unfolding least if◌then◌else◌
+unfolding least when◌then◌else◌
 least-left m n = go (ltb m n) refl
   where
-    go : (t : Bool) → ltb m n ≡ t → (if t then m else n) ≤ m
+    go : (t : Bool) → ltb m n ≡ t → (when t then m else n) ≤ m
     go true e = omega arith
     go false e = ltb-false m n e
 
 pub least-right : (m n : ℕ) → least m n ≤ n
-unfolding least if◌then◌else◌
+unfolding least when◌then◌else◌
 least-right m n = go (ltb m n) refl
   where
-    go : (t : Bool) → ltb m n ≡ t → (if t then m else n) ≤ n
+    go : (t : Bool) → ltb m n ≡ t → (when t then m else n) ≤ n
     go true e = omega (arith, ltb-true m n e)
     go false e = omega arith
 

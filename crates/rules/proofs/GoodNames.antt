@@ -8,7 +8,7 @@ use native.Mathlib.Omega.{arith}
 use lib.Dec.{eqb, leb, ltb}
 use lib.ListN.{length, drop}
 use borrow.Author.Tests.{leb-true, eqb-true, eq-eqb, le-leb}
-use Rattle.rules.specs.Base.{if◌then◌else◌, same}
+use Rattle.rules.specs.Base.{when◌then◌else◌, same}
 use Rattle.rules.specs.Base.{is}
 use Rattle.rules.specs.Tokens.{mark, word, text, Found, token, blank, bad, Match, match, Form, digit, letter, space, wordy, upper, value, while, begins, dec, dec_neg, hex, hex_neg, reg, digits, read, number_after, wrong_after, word_at, directive_after, after_hash, after_minus, after_x, after_r, line, Quoted, open', closed, quoted, after_quote, token_at}
 use Rattle.rules.specs.Words.{Row, find, instructions}
@@ -22,16 +22,16 @@ use Rattle.rules.proofs.Run.{same_run, true_run, false_run}
 
 -- a byte is a small letter, or its own upper case
 small : (c : ℕ) (P : ℕ → Type 0) → (97 ≤ c → c < 123 → P (c - 32)) → (upper c ≡ c → P c) → P (upper c)
-unfolding upper if◌then◌else◌
+unfolding upper when◌then◌else◌
 small c P f g = go (leb 97 c) (leb c 122) refl refl g
   where
-    go : (a b : Bool) → leb 97 c ≡ a → leb c 122 ≡ b → ((if a && b then c - 32 else c) ≡ c → P c) → P (if a && b then c - 32 else c)
+    go : (a b : Bool) → leb 97 c ≡ a → leb c 122 ≡ b → ((when a && b then c - 32 else c) ≡ c → P c) → P (when a && b then c - 32 else c)
     go true true p q h = f (leb-true 97 c p) (let l = leb-true c 122 q in omega (arith, l))
     go true false p q h = h refl
     go false b p q h = h refl
 
 upper-twice : (c : ℕ) → upper (upper c) ≡ upper c
-unfolding upper if◌then◌else◌
+unfolding upper when◌then◌else◌
 upper-twice c = small c (λ x. upper x ≡ x) (λ l h. same_run (λ x. upper (x - 32)) (λ x. x - 32) 97 26 tt c l h) (λ e. e)
 
 wordy-upper : (c : ℕ) → wordy (upper c) ≡ wordy c
@@ -47,7 +47,7 @@ unfolding letter
 letter-upper c = small c (λ x. letter x ≡ letter c) (λ l h. sym (true_run (λ x. letter (x - 32)) 97 26 tt c l h) ∙ true_run letter 97 26 tt c l h) (λ e. refl)
 
 value-upper : (c : ℕ) → value (upper c) ≡ value c
-unfolding value digit upper if◌then◌else◌
+unfolding value digit upper when◌then◌else◌
 value-upper c = small c (λ x. value x ≡ value c) (λ l h. same_run (λ x. value (x - 32)) value 97 26 tt c l h) (λ e. refl)
 
 or_no : (a b : Bool) → (a || b) ≡ false → a ≡ false
@@ -64,10 +64,10 @@ hex-wordy c l h = true_run wordy 65 6 tt c l (omega (arith, h))
 
 -- a byte that is no word character has no digit's value
 plain_value : (c : ℕ) → wordy c ≡ false → ltb (value c) 16 ≡ false
-unfolding value if◌then◌else◌
+unfolding value when◌then◌else◌
 plain_value c e = go (digit c) (leb 65 (upper c)) (leb (upper c) 70) (digit-wordy c e) refl refl
   where
-    go : (d a b : Bool) → d ≡ false → leb 65 (upper c) ≡ a → leb (upper c) 70 ≡ b → ltb (if d then c - 48 else (if a && b then upper c - 55 else 99)) 16 ≡ false
+    go : (d a b : Bool) → d ≡ false → leb 65 (upper c) ≡ a → leb (upper c) 70 ≡ b → ltb (when d then c - 48 else (when a && b then upper c - 55 else 99)) 16 ≡ false
     go true a b q x y = never cc
     go false true true q x y = never (cc (hex-wordy (upper c) (leb-true 65 (upper c) x) (leb-true (upper c) 70 y), wordy-upper c))
     go false true false q x y = refl
@@ -248,15 +248,15 @@ unfolding wordy digit letter
 R-wordy = refl
 
 X-token : (s : List ℕ) → token_at 88 s ≡ after_x 88 s
-unfolding token_at digit upper if◌then◌else◌
+unfolding token_at digit upper when◌then◌else◌
 X-token s = refl
 
 R-token : (s : List ℕ) → token_at 82 s ≡ after_r 82 s
-unfolding token_at digit upper if◌then◌else◌
+unfolding token_at digit upper when◌then◌else◌
 R-token s = refl
 
 X-reads : (c : ℕ) (s : List ℕ) → upper c ≡ 88 → Reads (after_x c s)
-unfolding after_x if◌then◌else◌
+unfolding after_x when◌then◌else◌
 X-reads c s q = either Reads (begins (is "-") s) (other-reads _ (hex_neg-other 2 (drop 1 s))) (go (begins (λ d. ltb (value d) 16) s) refl)
   where
     text : begins (λ d. ltb (value d) 16) s ≡ false → token_at (upper c) (map upper (while wordy s)) ≡ word_at (upper c ∷ map upper (while wordy s))
@@ -264,30 +264,30 @@ X-reads c s q = either Reads (begins (is "-") s) (other-reads _ (hex_neg-other 2
         let b : begins (λ d. ltb (value d) 16) (map upper (while wordy s)) ≡ false = run-begins (λ d. ltb (value d) 16) (λ d. ap (λ (x : ℕ). ltb x 16) (value-upper d)) plain_value s ∙ e in
         rw q (X-token (map upper (while wordy s)) ∙ X-word (begins (is "-") (map upper (while wordy s))) (begins (λ d. ltb (value d) 16) (map upper (while wordy s))) (begins-plain s) b)
       where
-        X-word : (x y : Bool) → x ≡ false → y ≡ false → (if x then number_after 2 hex_neg (drop 1 (map upper (while wordy s))) else (if y then number_after 1 hex (map upper (while wordy s)) else word_at (88 ∷ map upper (while wordy s)))) ≡ word_at (88 ∷ map upper (while wordy s))
+        X-word : (x y : Bool) → x ≡ false → y ≡ false → (when x then number_after 2 hex_neg (drop 1 (map upper (while wordy s))) else (when y then number_after 1 hex (map upper (while wordy s)) else word_at (88 ∷ map upper (while wordy s)))) ≡ word_at (88 ∷ map upper (while wordy s))
         X-word x y e f = rw (e, f)
 
-    go : (b : Bool) → begins (λ d. ltb (value d) 16) s ≡ b → Reads (if b then number_after 1 hex s else word_at (c ∷ s))
+    go : (b : Bool) → begins (λ d. ltb (value d) 16) s ≡ b → Reads (when b then number_after 1 hex s else word_at (c ∷ s))
     go true e = other-reads _ (hex-other 1 s)
     go false e = word-reads c s (upper-wordy c 88 q X-wordy) (text e)
 
 R-reads : (c : ℕ) (s : List ℕ) → upper c ≡ 82 → Reads (after_r c s)
-unfolding after_r if◌then◌else◌
+unfolding after_r when◌then◌else◌
 R-reads c s q = go (begins digit s && not (begins wordy (drop (length (while digit s)) s))) refl
   where
     same_test : (begins digit (map upper (while wordy s)) && not (begins wordy (drop (length (while digit (map upper (while wordy s)))) (map upper (while wordy s))))) ≡ (begins digit s && not (begins wordy (drop (length (while digit s)) s)))
     same_test = let a = run-begins digit digit-upper digit-wordy s in let b = after-digits s in λ i. a i && not (b i)
 
-    R-word : (x : Bool) → x ≡ false → (if x then number_after 1 reg (map upper (while wordy s)) else word_at (82 ∷ map upper (while wordy s))) ≡ word_at (82 ∷ map upper (while wordy s))
+    R-word : (x : Bool) → x ≡ false → (when x then number_after 1 reg (map upper (while wordy s)) else word_at (82 ∷ map upper (while wordy s))) ≡ word_at (82 ∷ map upper (while wordy s))
     R-word x e = rw e
 
-    go : (b : Bool) → (begins digit s && not (begins wordy (drop (length (while digit s)) s))) ≡ b → Reads (if b then number_after 1 reg s else word_at (c ∷ s))
+    go : (b : Bool) → (begins digit s && not (begins wordy (drop (length (while digit s)) s))) ≡ b → Reads (when b then number_after 1 reg s else word_at (c ∷ s))
     go true e = other-reads _ (reg-other 1 s)
     go false e = word-reads c s (upper-wordy c 82 q R-wordy) (rw q (R-token (map upper (while wordy s)) ∙ R-word _ (same_test ∙ e)))
 
 -- a letter that is neither
 letter-token : (u : ℕ) (s : List ℕ) → digit u ≡ false → letter u ≡ true → eqb (upper u) 88 ≡ false → eqb (upper u) 82 ≡ false → token_at u s ≡ word_at (u ∷ s)
-unfolding token_at if◌then◌else◌
+unfolding token_at when◌then◌else◌
 letter-token u s d l x r = rw (d, not-hash u l, not-minus u (letter-wordy u l), x, r, l)
 
 letter-reads : (c : ℕ) (s : List ℕ) → digit c ≡ false → letter c ≡ true → eqb (upper c) 88 ≡ false → eqb (upper c) 82 ≡ false → Reads (word_at (c ∷ s))
@@ -306,16 +306,16 @@ unfolding directive_after
 directive-other s = other-reads _ (λ w e. (never cc))
 
 quote-other : (s : List ℕ) → Reads (after_quote s)
-unfolding after_quote if◌then◌else◌
+unfolding after_quote when◌then◌else◌
 quote-other s = go (quoted false (line s))
   where
-    fits : (b : Bool) (t : List ℕ) (n : ℕ) → Reads (match (if b then token (text t) else bad 8) n)
+    fits : (b : Bool) (t : List ℕ) (n : ℕ) → Reads (match (when b then token (text t) else bad 8) n)
     fits true t n = other-reads _ (λ w e. (never cc))
     fits false t n = other-reads _ (λ w e. (never cc))
 
     go : (q : Quoted) → Reads (elim q as (λ x. Match) [
       | open' ↦ match (bad 7) (1 + length (line s))
-      | closed t n ↦ match (if leb (length t) 65534 then token (text t) else bad 8) (1 + n)
+      | closed t n ↦ match (when leb (length t) 65534 then token (text t) else bad 8) (1 + n)
     ])
     go open' = other-reads _ (λ w e. (never cc))
     go (closed t n) = fits (leb (length t) 65534) t (1 + n)
@@ -326,14 +326,14 @@ plain-match f n h = other-reads (match f n) h
 -- what begins with a byte that is no letter, digit, `#` or `-`
 abbrev others : ℕ → List ℕ → Match
 others c s =
-    if is "." c then directive_after s
-    else if is "\"" c then after_quote s
-    else if is ":" c then match (token (mark c)) 1
-    else if is "," c then match (token (mark c)) 1
-    else if is ";" c then match blank (1 + length (while (λ d. not (is "\n" d)) s))
-    else if is "\n" c then match (token (mark c)) 1
-    else if is "\r" c && begins (is "\n") s then match (token (mark 10)) 2
-    else if space c then match blank (1 + length (while space s))
+    when is "." c then directive_after s
+    else when is "\"" c then after_quote s
+    else when is ":" c then match (token (mark c)) 1
+    else when is "," c then match (token (mark c)) 1
+    else when is ";" c then match blank (1 + length (while (λ d. not (is "\n" d)) s))
+    else when is "\n" c then match (token (mark c)) 1
+    else when is "\r" c && begins (is "\n") s then match (token (mark 10)) 2
+    else when space c then match blank (1 + length (while space s))
     else match (bad 10) 1
 
 mark-other : (n m : ℕ) → Reads (match (token (mark n)) m)
@@ -357,22 +357,22 @@ others-read c s =
     either Reads (is "." c) (directive-other s) quotes
 
 pub word-again : (c : ℕ) (s : List ℕ) → Reads (token_at c s)
-unfolding token_at if◌then◌else◌
+unfolding token_at when◌then◌else◌
 word-again c s = by-digit (digit c) refl
   where
-    by-letter : digit c ≡ false → is "X" (upper c) ≡ false → is "R" (upper c) ≡ false → (b : Bool) → letter c ≡ b → Reads (if b then word_at (c ∷ s) else others c s)
+    by-letter : digit c ≡ false → is "X" (upper c) ≡ false → is "R" (upper c) ≡ false → (b : Bool) → letter c ≡ b → Reads (when b then word_at (c ∷ s) else others c s)
     by-letter d x r true l = letter-reads c s d l x r
     by-letter d x r false l = others-read c s
 
-    by-R : digit c ≡ false → is "X" (upper c) ≡ false → (b : Bool) → is "R" (upper c) ≡ b → Reads (if b then after_r c s else if letter c then word_at (c ∷ s) else others c s)
+    by-R : digit c ≡ false → is "X" (upper c) ≡ false → (b : Bool) → is "R" (upper c) ≡ b → Reads (when b then after_r c s else when letter c then word_at (c ∷ s) else others c s)
     by-R d x true r = R-reads c s (eqb-true (upper c) 82 r)
     by-R d x false r = by-letter d x r (letter c) refl
 
-    by-X : digit c ≡ false → (b : Bool) → is "X" (upper c) ≡ b → Reads (if b then after_x c s else if is "R" (upper c) then after_r c s else if letter c then word_at (c ∷ s) else others c s)
+    by-X : digit c ≡ false → (b : Bool) → is "X" (upper c) ≡ b → Reads (when b then after_x c s else when is "R" (upper c) then after_r c s else when letter c then word_at (c ∷ s) else others c s)
     by-X d true x = X-reads c s (eqb-true (upper c) 88 x)
     by-X d false x = by-R d x (is "R" (upper c)) refl
 
-    by-digit : (b : Bool) → digit c ≡ b → Reads (if b then number_after 0 dec (c ∷ s) else if is "#" c then after_hash s else if is "-" c then after_minus s else if is "X" (upper c) then after_x c s else if is "R" (upper c) then after_r c s else if letter c then word_at (c ∷ s) else others c s)
+    by-digit : (b : Bool) → digit c ≡ b → Reads (when b then number_after 0 dec (c ∷ s) else when is "#" c then after_hash s else when is "-" c then after_minus s else when is "X" (upper c) then after_x c s else when is "R" (upper c) then after_r c s else when letter c then word_at (c ∷ s) else others c s)
     by-digit true d = other-reads _ (dec-other 0 (c ∷ s))
     by-digit false d = either Reads (is "#" c) (hash-other s) (either Reads (is "-" c) (minus-other s) (by-X d (is "X" (upper c)) refl))
 

@@ -6,7 +6,7 @@ use mathlib.Core.List.{List, []}
 use mathlib.Core.Option.{Option, none, some}
 use lib.Dec.{eqb}
 use lib.ListN.{length}
-use Rattle.rules.specs.Base.{if◌then◌else◌, Outcome, ok, refuse}
+use Rattle.rules.specs.Base.{when◌then◌else◌, Outcome, ok, refuse}
 use Rattle.rules.specs.Tokens.{Token}
 use Rattle.rules.specs.Words.{Field, Row, find, instructions, directives}
 use Rattle.rules.specs.Statements.{Name, Given, bare, is_mark, as_word, as_directive, need, ends, token_is, operands_from, line_end, Read, read, stmt, row_read, instr_read, token_read}
@@ -45,19 +45,19 @@ module _ (s : List ℕ) (ls : List Name) (t : Token) where
         subst Inverted q (record { row = r; fields = fs; other = other; headed = h; given' = u.given'; taken = u.first; ended = w.first; is = refl })
 
     of-instr : (w : List ℕ) (r : Row) → as_word t.kind ≡ some w → find w instructions ≡ some r → instr_read s ls r t ≡ ok m → Inverted m
-    unfolding instr_read if◌then◌else◌
+    unfolding instr_read when◌then◌else◌
     of-instr w r a f e = by-nop r.optional e
       where
-        by_end : (b : Bool) → row_read s ls r t (if b then [] else r.fields) 13 ≡ ok m → Inverted m
+        by_end : (b : Bool) → row_read s ls r t (when b then [] else r.fields) 13 ≡ ok m → Inverted m
         by_end true q = of_row r [] 13 (alone w a f refl) q
         by_end false q = of_row r r.fields 13 (whole w a f refl) q
 
-        by-nop : (b : Bool) → (if b then row_read s ls r t (if token_is ends s t.place.stop then [] else r.fields) 13 else row_read s ls r t r.fields 14) ≡ ok m → Inverted m
+        by-nop : (b : Bool) → (when b then row_read s ls r t (when token_is ends s t.place.stop then [] else r.fields) 13 else row_read s ls r t r.fields 14) ≡ ok m → Inverted m
         by-nop true q = by_end (token_is ends s t.place.stop) q
         by-nop false q = of_row r r.fields 14 (whole w a f refl) q
 
     pub inverted : token_read s ls t ≡ ok m → Inverted m
-    unfolding token_read need if◌then◌else◌
+    unfolding token_read need when◌then◌else◌
     inverted e = by-dot (as_directive t.kind) refl e
       where
         by_row_lem : (d : List ℕ) → as_directive t.kind ≡ some d → (o : Option Row) → find d directives ≡ o → need o 13 t.place (λ r. row_read s ls r t r.fields 14) ≡ ok m → Inverted m
@@ -68,13 +68,13 @@ module _ (s : List ℕ) (ls : List Name) (t : Token) where
         by-find w a none q h = never cc
         by-find w a (some r) q h = of-instr w r a q h
 
-        by_end : (b : Bool) → (b ≡ true → is_mark 0 t.kind ≡ true) → (if b then ok none else refuse 13 t.place) ≡ ok m → Inverted m
+        by_end : (b : Bool) → (b ≡ true → is_mark 0 t.kind ≡ true) → (when b then ok none else refuse 13 t.place) ≡ ok m → Inverted m
         by_end true k h = let q : none ≡ m = cc in subst Inverted q (k refl)
         by_end false k h = never cc
 
         by_word : (o : Option (List ℕ)) → as_word t.kind ≡ o → ◌≡◌ {A = Outcome (Option Read)} (elim o [
           | some w ↦ elim (find w instructions) [ some r ↦ instr_read s ls r t | none ↦ refuse 16 t.place ]
-          | none ↦ if is_mark 0 t.kind && eqb (length ls) 0 then ok none else refuse 13 t.place
+          | none ↦ when is_mark 0 t.kind && eqb (length ls) 0 then ok none else refuse 13 t.place
         ]) (ok m) → Inverted m
         by_word none a h = by_end (is_mark 0 t.kind && eqb (length ls) 0) (and_left (is_mark 0 t.kind) (eqb (length ls) 0)) h
         by_word (some w) a h = by-find w a (find w instructions) refl h
@@ -83,7 +83,7 @@ module _ (s : List ℕ) (ls : List Name) (t : Token) where
           | some d ↦ need (find d directives) 13 t.place (λ r. row_read s ls r t r.fields 14)
           | none ↦ elim (as_word t.kind) [
             | some w ↦ elim (find w instructions) [ some r ↦ instr_read s ls r t | none ↦ refuse 16 t.place ]
-            | none ↦ if is_mark 0 t.kind && eqb (length ls) 0 then ok none else refuse 13 t.place
+            | none ↦ when is_mark 0 t.kind && eqb (length ls) 0 then ok none else refuse 13 t.place
           ]
         ]) (ok m) → Inverted m
         by-dot none a h = by_word (as_word t.kind) refl h

@@ -4,7 +4,7 @@ use mathlib.Core.Path.{◌≡◌, refl, ap, sym, ◌∙◌}
 use mathlib.Core.Bool.{Bool, true, false, ◌&&◌}
 use mathlib.Core.Logic.{⊎_elim}
 use mathlib.Core.List.{List, [], ◌∷◌, ◌++◌}
-use Rattle.rules.specs.Base.{if◌then◌else◌, is, Outcome, ok, ◌>>=◌, span}
+use Rattle.rules.specs.Base.{when◌then◌else◌, is, Outcome, ok, ◌>>=◌, span}
 use Rattle.rules.specs.Patterns.{token_by, tokens_by_from, tokens_by}
 use Rattle.rules.specs.Tokens.{Match, match, bad, begins, digit, letter, space, upper, Token, kept, token_at, tokens_from, tokens, blame}
 use Rattle.rules.proofs.FirstByte as F

@@ -8,7 +8,7 @@ use native.Mathlib.Omega.{arith}
 use lib.Dec.{leb, eqb}
 use borrow.Author.Tests.{eqb-true}
 use lib.ListN.{length, drop, take}
-use Rattle.rules.specs.Base.{if◌then◌else◌}
+use Rattle.rules.specs.Base.{when◌then◌else◌}
 use Rattle.rules.specs.Tokens.{Kind, number, register, mark, word, directive, text, Found, token, blank, bad, Match, match, Form, while, wordy, upper, value, digits, read, dec, dec_neg, hex, hex_neg, reg, number_after, wrong_after, word_at, directive_after, after_hash, after_minus, after_x, after_r, Quoted, open', closed, quoted, line, after_quote, token_at}
 use Rattle.rules.proofs.Bools.{either, either-if}
 
@@ -120,7 +120,7 @@ module _ (c : ℕ) (s : List ℕ) where
   unfolding after_quote chars
   quote-right = go (quoted false (line s)) refl
     where
-      go : (q : Quoted) → quoted false (line s) ≡ q → Here (elim q [ open' ↦ match (bad 7) (1 + length (line s)) | closed t n ↦ match (if leb (length t) 65534 then token (text t) else bad 8) (1 + n) ])
+      go : (q : Quoted) → quoted false (line s) ≡ q → Here (elim q [ open' ↦ match (bad 7) (1 + length (line s)) | closed t n ↦ match (when leb (length t) 65534 then token (text t) else bad 8) (1 + n) ])
       go open' e = tt
       go (closed t n) e = either (Shows (c ∷ s) (1 + n)) (leb (length t) 65534) (rw e refl) tt
 

@@ -7,7 +7,7 @@ use mathlib.Core.List.{List, [], ◌∷◌}
 use native.Mathlib.Omega.{arith}
 use lib.Dec.{T, eqb, leb, ltb, ltb→lt}
 use borrow.Author.Tests.{ne_eqb, lt-leb, le-leb, not-true, ltb-true, ltb-false}
-use Rattle.rules.specs.Base.{if◌then◌else◌, is, within}
+use Rattle.rules.specs.Base.{when◌then◌else◌, is, within}
 use Rattle.rules.specs.Regex.{matching}
 use Rattle.rules.specs.Patterns.{Row, patterns, best, token_by}
 use Rattle.rules.specs.Tokens.{match, bad, digit, letter, space, upper, value, wordy, lexing, token_at}
@@ -187,7 +187,7 @@ module _ (c : ℕ) (h : 128 ≤ c) where
   high-hex = let u : Unit {0} = tt in simp (not-below, from)
 
   high_value : ltb (value c) 16 ≡ false
-  unfolding if◌then◌else◌ digit upper value
+  unfolding when◌then◌else◌ digit upper value
   high_value = let u : Unit {0} = tt in simp (not-below, from)
 
   none-starts : alive c patterns ≡ marks 17 0 []

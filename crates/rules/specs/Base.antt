@@ -5,10 +5,10 @@ use Prim.Native.String.{String}
 use Prim.Native.String as S
 use Rattle.std.proofs.Math.Option.{Option, none, some}
 
-infix 10 if◌then◌else◌
-unfoldable pub if◌then◌else◌ : {A : Type 0} → Bool → A → A → A
-if true then a else b = a
-if false then a else b = b
+infix 10 when◌then◌else◌
+unfoldable pub when◌then◌else◌ : {A : Type 0} → Bool → A → A → A
+when true then a else b = a
+when false then a else b = b
 
 -- a span (start, end) of the source
 pub record Span : Type 0 where

@@ -1,7 +1,7 @@
 -- An object in six lent buffers: what 42 and 43 demand of them, the object that stands in them, and the one layout in which an object is written. Assumes nothing.
 use Rattle.std.specs.Prelude.{◌≡◌, Bool, true, ◌||◌, List, [], ◌∷◌, ◌++◌, map, ℕ, zero, suc, ◌+◌, ◌-◌, ◌*◌, ◌≤◌, ◌<◌, length, take, drop, get_or, replicate, ltb}
 use Rattle.std.proofs.Math.Option.{some}
-use Rattle.rules.specs.Base.{if◌then◌else◌}
+use Rattle.rules.specs.Base.{when◌then◌else◌}
 use Rattle.rules.specs.Capacities.{name_room, block_room, label_room, reloc_room, word_room}
 use Rattle.rules.specs.Tables.{Table, Order, Tri, less, same, more, look, nat_order, name_order, Before}
 use Rattle.rules.specs.Objects.{Cell, unset, word, Lab, outer, defined, address_of, Name, Object, object, Counts, flat, cells, heads, good_name}
@@ -27,7 +27,7 @@ short b =
 
 -- The lent words are the least of the word buffer, its set marks and 65,024.
 unfoldable pub least : ℕ → ℕ → ℕ
-least m n = if ltb m n then m else n
+least m n = when ltb m n then m else n
 
 unfoldable pub lent_words : List ℕ → List ℕ → ℕ
 lent_words words marks = least (least (length words) (length marks)) word_room

@@ -1,6 +1,6 @@
 -- What every call is, said once: section "Refusal numbers" of document 01, where it says which refusal goes first and what a call leaves. Assumes nothing.
 use Rattle.std.specs.Prelude.{◌≡◌, Bool, true, false, ◌||◌, List, [], ℕ}
-use Rattle.rules.specs.Base.{if◌then◌else◌, Outcome, ok, refused, refuse, nowhere}
+use Rattle.rules.specs.Base.{when◌then◌else◌, Outcome, ok, refused, refuse, nowhere}
 use Rattle.rules.specs.Objects.{Object, nothing, Counts}
 use Rattle.rules.specs.Buffers.{Buffers, short, Valid, lay, layout}
 use Rattle.rules.specs.Answers.{Answer, answer}
@@ -24,7 +24,7 @@ OfTwoObjects c b d e out rule r = Answered (short b || short e || short out) (Va
 
 -- of a call that is lent bytes, a source or a stored object, and buffers for an object: nothing can be 43, and the answer is computed
 unfoldable pub of_bytes : {A : Type 0} → Buffers → Outcome A → Outcome A
-of_bytes out rule = if short out then refuse 42 nowhere else rule
+of_bytes out rule = when short out then refuse 42 nowhere else rule
 
 -- AFTERWARDS. A lent object, a source and stored bytes are as they were: no call can write to them. After acceptance the unused rest of each output buffer is zero.
 

@@ -1,14 +1,14 @@
 -- Section "Stored form and listing" of document 01, the listing and the listing program. Assumes nothing.
 use Rattle.std.specs.Prelude.{ℕ, ◌+◌, ◌/◌, ◌%◌, length, leb, ltb}
 use mathlib.Core.List.{List, [], ◌∷◌, ◌++◌, map, flat_map}
-use Rattle.rules.specs.Base.{if◌then◌else◌, Outcome, ok, refused, ◌>>=◌, ◌>>◌, require, span, nowhere, bytes}
+use Rattle.rules.specs.Base.{when◌then◌else◌, Outcome, ok, refused, ◌>>=◌, ◌>>◌, require, span, nowhere, bytes}
 use Rattle.rules.specs.Capacities.{program_source_room, program_word_room}
 use Rattle.rules.specs.Objects.{Cell, unset, word, Lab, outer, defined, Name, Object}
 use Rattle.rules.specs.Passes.{assemble}
 
 -- four hexadecimal digits
 unfoldable pub hex_digit : ℕ → ℕ
-hex_digit n = if ltb n 10 then 48 + n else 55 + n
+hex_digit n = when ltb n 10 then 48 + n else 55 + n
 
 unfoldable pub hex4 : ℕ → List ℕ
 hex4 n = map hex_digit (n / 4096 ∷ n / 256 % 16 ∷ n / 16 % 16 ∷ n % 16 ∷ [])
@@ -48,7 +48,7 @@ list room o = do
 
 -- refusals as `REFUSED` and the decimal number, which is below 100
 unfoldable pub decimal : ℕ → List ℕ
-decimal n = if ltb n 10 then (48 + n) ∷ [] else (48 + n / 10) ∷ (48 + n % 10) ∷ []
+decimal n = when ltb n 10 then (48 + n) ∷ [] else (48 + n / 10) ∷ (48 + n % 10) ∷ []
 
 unfoldable pub printed : Outcome Object → List ℕ
 printed (ok o) = listing o
@@ -64,5 +64,5 @@ unfoldable pub listing_program : List ℕ → List ℕ
 listing_program input = printed (assembled input)
 
 unfoldable pub printing : Unit {0}
-unfolding if◌then◌else◌ flat_map hex_digit hex4 cell_text word_lines block_lines label_line reloc_line listing list decimal printed assembled listing_program
+unfolding when◌then◌else◌ flat_map hex_digit hex4 cell_text word_lines block_lines label_line reloc_line listing list decimal printed assembled listing_program
 printing = tt

@@ -1,7 +1,7 @@
 -- Section "Pass one and pass two" of document 01, as `SymbolTable::new` and `ObjectFile::new`, and assembling as a whole. Assumes nothing.
 use Rattle.std.specs.Prelude.{ℕ, ◌+◌, ◌-◌, Bool, ◌&&◌, ◌||◌, List, [], ◌∷◌, ◌++◌, map, length, replicate, eqb, leb, ltb}
 use Rattle.std.proofs.Math.Option.{Option, none, some}
-use Rattle.rules.specs.Base.{if◌then◌else◌, Outcome, ok, ◌>>=◌, ◌>>◌, require, refuse, refuse2, Span, nowhere, has}
+use Rattle.rules.specs.Base.{when◌then◌else◌, Outcome, ok, ◌>>=◌, ◌>>◌, require, refuse, refuse2, Span, nowhere, has}
 use Rattle.rules.specs.Capacities.{block_room, label_room, reloc_room}
 use Rattle.rules.specs.Tokens.{lexed}
 use Rattle.rules.specs.Words.{offset, fits, reach, field, Op, instr, orig, fill, blkw, stringz, end, external}
@@ -65,8 +65,8 @@ with_relocs r o = pass1_state o.cursor o.symbols r o.blocks o.words
 -- it stays what it was. At another address: 25. 40 when a new name meets a full table.
 unfoldable pub add_label : Lab → Span → S.Name → Table Name Symbol → Outcome (Table Name Symbol)
 add_label v p n ss = elim (look name_order ss n.text) [
-  | some s ↦ if eqb (address_of s.lab) (address_of v) then ok ss else refuse2 25 s.place n.place
-  | none ↦ if ltb (length ss) label_room then ok (insert name_order newer (n.text, symbol v n.place) ss) else refuse 40 p
+  | some s ↦ when eqb (address_of s.lab) (address_of v) then ok ss else refuse2 25 s.place n.place
+  | none ↦ when ltb (length ss) label_room then ok (insert name_order newer (n.text, symbol v n.place) ss) else refuse 40 p
 ]
 
 unfoldable pub add_labels : ℕ → Span → List S.Name → Table Name Symbol → Outcome (Table Name Symbol)
@@ -88,7 +88,7 @@ labelled (n ∷ ns) p o = elim o.cursor [
 -- A relocation arises only where .external stands before the .fill; 40 when one at a new address meets a full table.
 unfoldable pub relocated : ℕ → Name → Span → Pass1State → Outcome Pass1State
 relocated a n p o =
-    if has (look nat_order o.relocs a) || ltb (length o.relocs) reloc_room then ok (with_relocs (insert nat_order newer (a, n) o.relocs) o)
+    when has (look nat_order o.relocs a) || ltb (length o.relocs) reloc_room then ok (with_relocs (insert nat_order newer (a, n) o.relocs) o)
     else refuse 40 p
 
 unfoldable pub filled : S.Name → Span → Pass1State → Outcome Pass1State
@@ -103,8 +103,8 @@ filled n p o = elim (look name_order o.symbols n.text) [
 -- 40 when at .end a new non-empty block meets a full table. Empty blocks are dropped.
 unfoldable pub closed : Cursor → Span → Pass1State → Outcome Pass1State
 closed c p o =
-    if eqb c.counter c.start then ok (with_cursor none o)
-    else if ltb o.blocks block_room then ok (pass1_state none o.symbols o.relocs (o.blocks + 1) (o.words + (c.counter - c.start)))
+    when eqb c.counter c.start then ok (with_cursor none o)
+    else when ltb o.blocks block_room then ok (pass1_state none o.symbols o.relocs (o.blocks + 1) (o.words + (c.counter - c.start)))
     else refuse 40 p
 
 -- then directive: 24 of both .orig, 23 of an .end,
@@ -131,9 +131,9 @@ advanced n p o = elim o.cursor [
   | none ↦ ok o
   | some c ↦
       let a = c.counter + n in
-      if eqb n 0 then ok o
-      else if leb a 0xfe00 then ok (with_cursor (some (record { start = c.start; counter = a; place = c.place })) o)
-      else if leb a 0x10000 then refuse 27 p
+      when eqb n 0 then ok o
+      else when leb a 0xfe00 then ok (with_cursor (some (record { start = c.start; counter = a; place = c.place })) o)
+      else when leb a 0x10000 then refuse 27 p
       else refuse 26 p
 ]
 
@@ -216,14 +216,14 @@ ranges_overlap a n b m = ltb a (b + m) && ltb b (a + n)
 
 -- 28: both .orig, earlier first
 unfoldable pub overlapping : Span → Span → Outcome (List ObjBlock)
-overlapping p q = if leb p.start q.start then refuse2 28 p q else refuse2 28 q p
+overlapping p q = when leb p.start q.start then refuse2 28 p q else refuse2 28 q p
 
 -- a block among those closed: 28 with the first of them, by start, that it overlaps
 unfoldable pub place : ObjBlock → List ObjBlock → Outcome (List ObjBlock)
 place x [] = ok (x ∷ [])
 place x (y ∷ ys) =
-    if ranges_overlap x.start (length x.words) y.start (length y.words) then overlapping x.place y.place
-    else if ltb x.start y.start then ok (x ∷ y ∷ ys)
+    when ranges_overlap x.start (length x.words) y.start (length y.words) then overlapping x.place y.place
+    else when ltb x.start y.start then ok (x ∷ y ∷ ys)
     else do
       zs ← place x ys
       ok (y ∷ zs)
@@ -242,7 +242,7 @@ unfoldable pub finish : Pass2State → Outcome Pass2State
 finish t = elim t.current [
   | none ↦ ok t
   | some x ↦
-      if eqb (length x.words) 0 then ok (pass2_state none t.blocks)
+      when eqb (length x.words) 0 then ok (pass2_state none t.blocks)
       else do
         bs ← place x t.blocks
         ok (pass2_state none bs)

@@ -2,7 +2,7 @@
 -- Comments and blank lines count for nothing: comments give no token, and newlines before a statement are passed over. Assumes nothing.
 use Rattle.std.specs.Prelude.{ℕ, zero, suc, ◌+◌, ◌-◌, ◌*◌, ◌%◌, ◌≤◌, ◌<◌, Bool, true, false, ◌&&◌, ◌||◌, List, [], ◌∷◌, length, eqb, leb}
 use Rattle.std.proofs.Math.Option.{Option, none, some}
-use Rattle.rules.specs.Base.{if◌then◌else◌, Outcome, ok, refused, ◌>>=◌, refuse, ◌>>◌, require, Span, span, nowhere, has}
+use Rattle.rules.specs.Base.{when◌then◌else◌, Outcome, ok, refused, ◌>>=◌, refuse, ◌>>◌, require, Span, span, nowhere, has}
 use Rattle.rules.specs.Capacities.{name_room}
 use Rattle.rules.specs.Tokens.{Num, plus, minus, Kind, Token, number, register, mark, word, directive, text, next_token}
 use Rattle.rules.specs.Words.{Range, signed, Field, reg, reg_or_imm, num, near, name, string, Op, Row, instructions, directives, find}
@@ -92,7 +92,7 @@ reduced r (plus n) = n
 reduced r (minus n) = (r.modulus - n) % r.modulus
 
 unfoldable pub fit : Range → Num → Span → Outcome ℕ
-fit r n p = if in_range r n then ok (reduced r n) else refuse 15 p
+fit r n p = when in_range r n then ok (reduced r n) else refuse 15 p
 
 -- a word that is not reserved is a label token; above 64 bytes it is 16
 unfoldable pub as_label : Kind → Option (List ℕ)
@@ -102,7 +102,7 @@ as_label k = elim (as_word k) [
 ]
 
 unfoldable pub named : List ℕ → Span → Outcome Name
-named t p = if leb (length t) name_room then ok (record { text = t; place = p }) else refuse 16 p
+named t p = when leb (length t) name_room then ok (record { text = t; place = p }) else refuse 16 p
 
 -- Where an operand is due and another kind of token or none stands there: 14, which goes before 15 and 16 at one token.
 -- `other` is 14, or 13 after NOP: "NOP's operand may be left out and is then 0; a wrong token there is 13."
@@ -160,13 +160,13 @@ past_lines s i = walk (token_is (is_mark 10) s) (stop_at s) (length s - i) i
 
 -- an optional colon
 unfoldable pub past_colon : List ℕ → ℕ → ℕ
-past_colon s i = if token_is (is_mark 58) s i then stop_at s i else i
+past_colon s i = when token_is (is_mark 58) s i then stop_at s i else i
 
 -- LABELS, each with an optional colon and any newlines after it
 
 -- the label token's text and place
 unfoldable pub as_name : Kind → Span → Option Name
-as_name k p = elim (as_label k) [ none ↦ none | some t ↦ if leb (length t) name_room then some (record { text = t; place = p }) else none ]
+as_name k p = elim (as_label k) [ none ↦ none | some t ↦ when leb (length t) name_room then some (record { text = t; place = p }) else none ]
 
 unfoldable pub name_at : List ℕ → ℕ → Option Name
 name_at s i = elim (next_token s i) [ ok t ↦ as_name t.kind t.place | refused r ↦ none ]
@@ -272,7 +272,7 @@ row_read s ls r t fs other = do
 -- NOP's operand may be left out and is then 0; a wrong token there is 13.
 unfoldable pub instr_read : List ℕ → List Name → Row → Token → Outcome (Option Read)
 instr_read s ls r t =
-    if r.optional then row_read s ls r t (if token_is ends s t.place.stop then [] else r.fields) 13
+    when r.optional then row_read s ls r t (when token_is ends s t.place.stop then [] else r.fields) 13
     else row_read s ls r t r.fields 14
 
 -- Every other misplaced token, an unknown directive, and labels with nothing after them: 13. Directives in any case: the token's text is in upper case.
@@ -282,7 +282,7 @@ token_read s ls t = elim (as_directive t.kind) [
   | some d ↦ need (find d directives) 13 t.place (λ r. row_read s ls r t r.fields 14)
   | none ↦ elim (as_word t.kind) [
     | some w ↦ elim (find w instructions) [ some r ↦ instr_read s ls r t | none ↦ refuse 16 t.place ]
-    | none ↦ if is_mark 0 t.kind && eqb (length ls) 0 then ok none else refuse 13 t.place
+    | none ↦ when is_mark 0 t.kind && eqb (length ls) 0 then ok none else refuse 13 t.place
   ]
 ]
 

@@ -1,7 +1,7 @@
 -- Section "Tokens" of document 01: the longest match of the patterns in lex.rs, over ASCII, read by hand.
 -- `Patterns` has the patterns themselves, and the page of promises the theorem that both are one reading. Assumes nothing.
 use Rattle.std.specs.Prelude.{ℕ, zero, suc, ◌+◌, ◌-◌, ◌*◌, Bool, true, false, ◌&&◌, ◌||◌, not, List, [], ◌∷◌, ◌++◌, map, length, drop, eqb, leb, ltb}
-use Rattle.rules.specs.Base.{if◌then◌else◌, Outcome, ok, ◌>>=◌, ◌>>◌, require, refuse, Span, span, is, within}
+use Rattle.rules.specs.Base.{when◌then◌else◌, Outcome, ok, ◌>>=◌, ◌>>◌, require, refuse, Span, span, is, within}
 use Rattle.rules.specs.Capacities.{source_room}
 
 -- a number as written: its sign and size
@@ -43,13 +43,13 @@ space c = is " " c || is "\t" c
 
 -- words are matched in upper case
 unfoldable pub upper : ℕ → ℕ
-upper c = if within "a" "z" c then c - 32 else c
+upper c = when within "a" "z" c then c - 32 else c
 
 -- a digit's value, of ten or sixteen; 99 of any other byte
 unfoldable pub value : ℕ → ℕ
 value c =
-    if digit c then c - 48
-    else if within "A" "F" (upper c) then upper c - 55
+    when digit c then c - 48
+    else when within "A" "F" (upper c) then upper c - 55
     else 99
 
 -- the longest beginning whose bytes all pass a test
@@ -93,8 +93,8 @@ reg = form register 10 7 9 9 9
 unfoldable pub digits : Form → ℕ → List ℕ → Found
 digits f n [] = token (f.kind n)
 digits f n (c ∷ s) =
-    if leb f.base (value c) then bad f.wrong
-    else if ltb f.bound (n * f.base + value c) then bad f.over
+    when leb f.base (value c) then bad f.wrong
+    else when ltb f.bound (n * f.base + value c) then bad f.over
     else digits f (n * f.base + value c) s
 
 unfoldable pub read : Form → List ℕ → Found
@@ -122,29 +122,29 @@ directive_after s = let r = while wordy s in match (token (directive (map upper 
 unfoldable pub after_hash : List ℕ → Match
 after_hash s =
     let h = length (while (is "#") s) in
-    if begins (is "-") s then number_after 2 dec_neg (drop 1 s)
-    else if eqb h 0 then number_after 1 dec s
-    else if begins (is "-") (drop h s) then wrong_after (h + 2) (drop (h + 1) s)
+    when begins (is "-") s then number_after 2 dec_neg (drop 1 s)
+    else when eqb h 0 then number_after 1 dec s
+    else when begins (is "-") (drop h s) then wrong_after (h + 2) (drop (h + 1) s)
     else wrong_after (h + 1) (drop h s)
 
 -- -\w*  -#+\w*
 unfoldable pub after_minus : List ℕ → Match
 after_minus s =
     let h = length (while (is "#") s) in
-    if eqb h 0 then number_after 1 dec_neg s
+    when eqb h 0 then number_after 1 dec_neg s
     else wrong_after (h + 1) (drop h s)
 
 -- [Xx][\dA-Fa-f]\w*  [Xx]-\w*, and else a word: `x` or `xyz` is a word
 unfoldable pub after_x : ℕ → List ℕ → Match
 after_x c s =
-    if begins (is "-") s then number_after 2 hex_neg (drop 1 s)
-    else if begins (λ d. ltb (value d) 16) s then number_after 1 hex s
+    when begins (is "-") s then number_after 2 hex_neg (drop 1 s)
+    else when begins (λ d. ltb (value d) 16) s then number_after 1 hex s
     else word_at (c ∷ s)
 
 -- [Rr]\d+ where no more word characters follow, and else a word: `R8` is 9, `R8x` is a word, `R007` is register 7
 unfoldable pub after_r : ℕ → List ℕ → Match
 after_r c s =
-    if begins digit s && not (begins wordy (drop (length (while digit s)) s)) then number_after 1 reg s
+    when begins digit s && not (begins wordy (drop (length (while digit s)) s)) then number_after 1 reg s
     else word_at (c ∷ s)
 
 -- a line's rest: to end of line, before LF or CR LF
@@ -156,11 +156,11 @@ line (c ∷ s) =
 -- In a string `\n \r \t \\ \0 \"` stand for one character; before any other character the backslash stays.
 unfoldable pub escape : ℕ → List ℕ
 escape c =
-    if is "n" c then 10 ∷ []
-    else if is "r" c then 13 ∷ []
-    else if is "t" c then 9 ∷ []
-    else if is "0" c then 0 ∷ []
-    else if is "\\" c || is "\"" c then c ∷ []
+    when is "n" c then 10 ∷ []
+    else when is "r" c then 13 ∷ []
+    else when is "t" c then 9 ∷ []
+    else when is "0" c then 0 ∷ []
+    else when is "\\" c || is "\"" c then c ∷ []
     else 92 ∷ c ∷ []
 
 -- a string after its quote: it has no end, or these characters and this many bytes, its end quote among them
@@ -177,8 +177,8 @@ unfoldable pub quoted : Bool → List ℕ → Quoted
 quoted b [] = open'
 quoted true (c ∷ s) = put (escape c) (quoted false s)
 quoted false (c ∷ s) =
-    if is "\"" c then closed [] 1
-    else if is "\\" c then put [] (quoted true s)
+    when is "\"" c then closed [] 1
+    else when is "\\" c then put [] (quoted true s)
     else put (c ∷ []) (quoted false s)
 
 -- 7: quote to end of line. At most 65,534 characters result, else 8.
@@ -186,27 +186,27 @@ unfoldable pub after_quote : List ℕ → Match
 after_quote s =
     elim (quoted false (line s)) [
       | open' ↦ match (bad 7) (1 + length (line s))
-      | closed t n ↦ match (if leb (length t) 65534 then token (text t) else bad 8) (1 + n)
+      | closed t n ↦ match (when leb (length t) 65534 then token (text t) else bad 8) (1 + n)
     ]
 
 -- The token that begins with the byte c and goes on in s. A comment runs to the line feed, a carriage return included;
 -- elsewhere, but in a string, a carriage return without a line feed is 10.
 unfoldable pub token_at : ℕ → List ℕ → Match
 token_at c s =
-    if digit c then number_after 0 dec (c ∷ s)
-    else if is "#" c then after_hash s
-    else if is "-" c then after_minus s
-    else if is "X" (upper c) then after_x c s
-    else if is "R" (upper c) then after_r c s
-    else if letter c then word_at (c ∷ s)
-    else if is "." c then directive_after s
-    else if is "\"" c then after_quote s
-    else if is ":" c then match (token (mark c)) 1
-    else if is "," c then match (token (mark c)) 1
-    else if is ";" c then match blank (1 + length (while (λ d. not (is "\n" d)) s))
-    else if is "\n" c then match (token (mark c)) 1
-    else if is "\r" c && begins (is "\n") s then match (token (mark 10)) 2
-    else if space c then match blank (1 + length (while space s))
+    when digit c then number_after 0 dec (c ∷ s)
+    else when is "#" c then after_hash s
+    else when is "-" c then after_minus s
+    else when is "X" (upper c) then after_x c s
+    else when is "R" (upper c) then after_r c s
+    else when letter c then word_at (c ∷ s)
+    else when is "." c then directive_after s
+    else when is "\"" c then after_quote s
+    else when is ":" c then match (token (mark c)) 1
+    else when is "," c then match (token (mark c)) 1
+    else when is ";" c then match blank (1 + length (while (λ d. not (is "\n" d)) s))
+    else when is "\n" c then match (token (mark c)) 1
+    else when is "\r" c && begins (is "\n") s then match (token (mark 10)) 2
+    else when space c then match blank (1 + length (while space s))
     else match (bad 10) 1
 
 -- a token and its place
@@ -271,5 +271,5 @@ lexed s = do
 
 -- whoever unfolds `lexing` unfolds every definition of this module
 unfoldable pub lexing : Unit {0}
-unfolding if◌then◌else◌ digit letter wordy space upper value while begins dec dec_neg hex hex_neg reg digits read number_after wrong_after word_at directive_after after_hash after_minus after_x after_r line escape put quoted after_quote token_at kept tokens_from tokens next_from next_token ascii lexed
+unfolding when◌then◌else◌ digit letter wordy space upper value while begins dec dec_neg hex hex_neg reg digits read number_after wrong_after word_at directive_after after_hash after_minus after_x after_r line escape put quoted after_quote token_at kept tokens_from tokens next_from next_token ascii lexed
 lexing = tt

@@ -4,7 +4,7 @@ use mathlib.Core.Path.{◌≡◌, refl, sym, ◌∙◌, ap, subst}
 use mathlib.Core.Bool.{false}
 use mathlib.Core.List.{List}
 use lib.ListN.{length-replicate}
-use Rattle.rules.specs.Base.{if◌then◌else◌, Outcome, ok, refused, Refusal, ◌>>=◌}
+use Rattle.rules.specs.Base.{when◌then◌else◌, Outcome, ok, refused, Refusal, ◌>>=◌}
 use Rattle.rules.specs.Capacities.{word_room}
 use Rattle.rules.specs.Answers.{answer}
 use Rattle.rules.specs.Objects.{Object, Counts, counts_of, Good}
@@ -43,7 +43,7 @@ abbrev pub lent : Buffers
 lent = lending (zeros 65024) (zeros 65024)
 
 pub lent-words : lent_words lent.words lent.marks ≡ word_room
-unfolding lent_words least if◌then◌else◌
+unfolding lent_words least when◌then◌else◌
 lent-words = rw (length-replicate {A = ℕ} 65024 0) refl
 
 -- A CALL, of whatever outcome, in buffers of full size: what it accepts is good, and a refusal is not number 0

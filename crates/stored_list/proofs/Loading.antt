@@ -2,7 +2,7 @@
 use Prim.Native.Nat.{ℕ, ◌≤◌}
 use mathlib.Core.Path.{◌≡◌, refl, ◌∙◌}
 use mathlib.Core.List.{List}
-use Rattle.rules.specs.Base.{if◌then◌else◌}
+use Rattle.rules.specs.Base.{when◌then◌else◌}
 use Rattle.rules.specs.Capacities.{program_word_room}
 use Rattle.rules.specs.Buffers.{Buffers}
 use Rattle.rules.specs.Calls.{of_bytes}
@@ -17,7 +17,7 @@ use Rattle.stored_list.specs.Stored.{stored_listing}
 
 module _ (s : List ℕ) (v : AreBytes s) where
   called_is : called lent s ≡ load program_word_room s
-  unfolding called of_bytes if◌then◌else◌
+  unfolding called of_bytes when◌then◌else◌
   called_is = rw (lent-long, lent-words) refl
 
   module _ (r : Answer) (b : Buffers) (l : Loaded lent s r b) (len : ℕ) (h : 482304 ≤ len) where

@@ -6,7 +6,7 @@ use Prim.Native.Nat.{ℕ, ◌≤◌, ◌<◌}
 use native.Mathlib.Omega.{arith}
 use native.Mathlib.Decide.{dec_le}
 use lib.ListN.{length, length-replicate}
-use Rattle.rules.specs.Base.{if◌then◌else◌, ok, refuse, nowhere, offset_at}
+use Rattle.rules.specs.Base.{when◌then◌else◌, ok, refuse, nowhere, offset_at}
 use Rattle.rules.specs.Answers as rule
 use Rattle.rules.specs.Objects as Objects
 use Rattle.rules.specs.Objects.{Object, nothing, counts_of}
@@ -98,11 +98,11 @@ settles-broken {k = k} g e = record { fits = λ d q l. never cc; not = λ d q l.
 -- THE CALL
 
 called-long : (out : Buffers) (b : List ℕ) → short out ≡ false → called out b ≡ load (lent_words out.words out.marks) b
-unfolding called of_bytes if◌then◌else◌
+unfolding called of_bytes when◌then◌else◌
 called-long out b e = rw e refl
 
 called-short : (out : Buffers) (b : List ℕ) → short out ≡ true → called out b ≡ refuse 42 nowhere
-unfolding called of_bytes if◌then◌else◌
+unfolding called of_bytes when◌then◌else◌
 called-short out b e = rw e refl
 
 -- a refusal leaves every buffer zero

@@ -7,7 +7,7 @@ use native.Mathlib.Omega.{arith}
 use lib.Dec.{leb}
 use lib.ListN.{length, take, get_or}
 use lib.Seq.{take-append_seam}
-use Rattle.rules.specs.Base.{if◌then◌else◌, ok, refuse, nowhere}
+use Rattle.rules.specs.Base.{when◌then◌else◌, ok, refuse, nowhere}
 use Rattle.rules.specs.Objects.{Counts, counts_of}
 use Rattle.rules.specs.Buffers.{Buffers, short, lent_words, view, Valid, zeros}
 use Rattle.rules.specs.Stored.{stored, store, check, load}
@@ -52,7 +52,7 @@ was-stored c b len n x p = go p.lent
 -- into buffers that are long enough, it is the object in its one layout
 pub stored-loads : (c : Counts) (b : Buffers) (len n : ℕ) (x : List ℕ) (out : Buffers) (r : Answer) (y : Buffers) → Writes store c b len (Bytes n) x → ((i : ℕ) → get_or b.words i 0 < 65536)
     → short out ≡ false → c.words ≤ lent_words out.words out.marks → Loaded out (take n x) r y → AcceptedCall out r y (view c b)
-unfolding called of_bytes if◌then◌else◌
+unfolding called of_bytes when◌then◌else◌
 stored-loads c b len n x out r y p low full room l =
     let s = was-stored c b len n x p in
     let g = valid-good c b s.valid low in

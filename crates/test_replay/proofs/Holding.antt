@@ -8,7 +8,7 @@ use borrow.Author.Tests.{le-leb, lt-leb}
 use lib.Dec.{eqb}
 use lib.ListN.{length, take, length-append}
 use lib.Seq.{take-append_seam}
-use Rattle.rules.specs.Base.{if◌then◌else◌, Outcome, ok, refused, same}
+use Rattle.rules.specs.Base.{when◌then◌else◌, Outcome, ok, refused, same}
 use Rattle.rules.specs.Buffers.{Buffers, six, view, lay, zeros}
 use Rattle.rules.specs.Calls.{OfObject, left_bytes}
 use Rattle.rules.specs.Listing.{list}
@@ -28,11 +28,11 @@ use Rattle.test_replay.specs.Replayed.{listed_as, held_to, Listed, AsAsked, othe
 -- THE LISTING
 module _ (x : Written) (text digits : List ℕ) where
   pub held_bytes : {r : Bool} (n : ℕ) → x ≡ Bytes n → n ≤ length text → r ≡ same (take (n - 0) text) (unhexed digits) → r ≡ held_to x text digits
-  unfolding held_to if◌then◌else◌
+  unfolding held_to when◌then◌else◌
   held_bytes n q h e = let z : n - 0 ≡ n = omega arith in rw (q, held_to, le-leb n (length text) h) (e ∙ ap (λ (k : ℕ). same (take k text) (unhexed digits)) z)
 
   pub held-long : (n : ℕ) → x ≡ Bytes n → length text < n → false ≡ held_to x text digits
-  unfolding held_to if◌then◌else◌
+  unfolding held_to when◌then◌else◌
   held-long n q h = rw (q, held_to, lt-leb n (length text) h) refl
 
   pub held-refused : (k : ℕ) → x ≡ Refused k → (eqb k 51 && eqb (length digits) 0) ≡ held_to x text digits
@@ -40,7 +40,7 @@ module _ (x : Written) (text digits : List ℕ) where
   held-refused k q = rw (q, held_to) refl
 
 held-coded : (o : Outcome (List ℕ)) (len : ℕ) (digits : List ℕ) → held_to (coded o) (left_bytes o len) digits ≡ listed_as o digits
-unfolding held_to listed_as if◌then◌else◌
+unfolding held_to listed_as when◌then◌else◌
 held-coded (ok l) len digits =
     let h : length l ≤ length (lay l len) = omega (arith, length-append l (zeros (len - length l))) in
     rw (le-leb (length l) (length (lay l len)) h, take-append_seam l (zeros (len - length l))) refl

@@ -1,6 +1,6 @@
 -- An answer and the listing of its object held to what a line asks for. Assumes nothing.
 use Rattle.std.specs.Prelude.{ℕ, ◌-◌, ◌≡◌, Bool, true, false, ◌&&◌, List, eqb, leb, length, take}
-use Rattle.rules.specs.Base.{if◌then◌else◌, Outcome, ok, refused, same}
+use Rattle.rules.specs.Base.{when◌then◌else◌, Outcome, ok, refused, same}
 use Rattle.rules.specs.Buffers.{Buffers, six, view, zeros}
 use Rattle.rules.specs.Calls.{OfObject}
 use Rattle.rules.specs.Listing.{list}
@@ -22,7 +22,7 @@ listed_as (refused r) digits = eqb r.number 51 && eqb (length digits) 0
 
 -- the same of a listing's answer and the buffer that it left
 unfoldable pub held_to : Written → List ℕ → List ℕ → Bool
-held_to (Bytes n) text digits = if leb n (length text) then same (take n text) (unhexed digits) else false
+held_to (Bytes n) text digits = when leb n (length text) then same (take n text) (unhexed digits) else false
 held_to (Refused k) text digits = eqb k 51 && eqb (length digits) 0
 
 -- r says whether what listing the object in these buffers into 399 bytes answers is what the digits stand for

@@ -7,7 +7,7 @@ use native.Mathlib.Omega.{arith}
 use borrow.Author.Tests.{ltb-true, ltb-false, lt-ltb, le-ltb, eq-eqb, ne_eqb}
 use lib.Dec.{eqb, ltb}
 use lib.ListN.{length, get_or, length-drop}
-use Rattle.rules.specs.Base.{if◌then◌else◌, same}
+use Rattle.rules.specs.Base.{when◌then◌else◌, same}
 use Rattle.rules.specs.Tokens.{value}
 use Rattle.base_text.specs.Runs.{from, run_end}
 use Rattle.base_text.specs.declared.Class.TheVariants.{Word, Digit}
@@ -17,11 +17,11 @@ use Rattle.test_support.specs.Sources.{pair, unhexed}
 
 -- PLACES
 pub past-in : (s : List ℕ) (i : ℕ) → i < length s → i + 1 ≡ past s i
-unfolding past if◌then◌else◌
+unfolding past when◌then◌else◌
 past-in s i h = rw (lt-ltb i (length s) h)
 
 pub past-out : (s : List ℕ) (i : ℕ) → length s ≤ i → i ≡ past s i
-unfolding past if◌then◌else◌
+unfolding past when◌then◌else◌
 past-out s i h = rw (le-ltb i (length s) h)
 
 -- NUMBERS: what is left of the digits goes on with the number so far
@@ -97,9 +97,9 @@ decimal-is s i p q r u = rw (u, r, q, p) refl
 
 module _ (s : List ℕ) (i : ℕ) {e n b : ℕ} (p : e ≡ run_end Word s i) (q : n ≡ past s e) (r : b ≡ get_or s e 0) where
   pub part-dash : {m : ℕ} → b ≡ 45 → m ≡ past s n → record { start = i; stop = e; next = m } ≡ part_at s i
-  unfolding part_at if◌then◌else◌
+  unfolding part_at when◌then◌else◌
   part-dash h u = let z : eqb (get_or s (run_end Word s i) 0) 45 ≡ true = rw (← p, ← r) (eq-eqb b 45 h) in rw (z, u, q, p) refl
 
   pub part-plain : (b ≡ 45 → ⊥) → record { start = i; stop = e; next = n } ≡ part_at s i
-  unfolding part_at if◌then◌else◌
+  unfolding part_at when◌then◌else◌
   part-plain h = let z : eqb (get_or s (run_end Word s i) 0) 45 ≡ false = rw (← p, ← r) (ne_eqb b 45 h) in rw (z, q, p) refl

@@ -1,6 +1,6 @@
 -- The fields of a line of text: decimal numbers and hexadecimal digits. Assumes nothing.
 use Rattle.std.specs.Prelude.{ℕ, ◌+◌, ◌-◌, ◌*◌, ◌%◌, List, [], ◌∷◌, eqb, leb, ltb, length, take, drop, get_or}
-use Rattle.rules.specs.Base.{if◌then◌else◌}
+use Rattle.rules.specs.Base.{when◌then◌else◌}
 use Rattle.rules.specs.Tokens.{value}
 use Rattle.base_text.specs.Runs.{run_end}
 use Rattle.base_text.specs.declared.Class.TheVariants.{Word, Digit}
@@ -9,11 +9,11 @@ use Rattle.test_support.specs.declared.Part.{Part}
 
 -- the place after a byte, where there is one
 unfoldable pub past : List ℕ → ℕ → ℕ
-past s i = if ltb i (length s) then i + 1 else i
+past s i = when ltb i (length s) then i + 1 else i
 
 -- the bytes from a up to e; none where these places are not in s
 unfoldable pub between : List ℕ → (a e : ℕ) → List ℕ
-between s a e = if leb a e then (if leb e (length s) then take (e - a) (drop a s) else []) else []
+between s a e = when leb a e then (when leb e (length s) then take (e - a) (drop a s) else []) else []
 
 -- the number that decimal digits stand for behind those of v, by its last twelve digits
 unfoldable pub number_from : ℕ → List ℕ → ℕ
@@ -32,4 +32,4 @@ unfoldable pub part_at : List ℕ → ℕ → Part
 part_at s i =
     let e = run_end Word s i in
     let n = past s e in
-    record { start = i; stop = e; next = if eqb (get_or s e 0) 45 then past s n else n }
+    record { start = i; stop = e; next = when eqb (get_or s e 0) 45 then past s n else n }

@@ -8,7 +8,7 @@ use native.Mathlib.Omega.{arith}
 use borrow.Author.Tests.{le-leb, lt-leb}
 use lib.Dec.{leb}
 use lib.ListN.{length, get_or, take, drop}
-use Rattle.rules.specs.Base.{if◌then◌else◌, Span, span, nowhere}
+use Rattle.rules.specs.Base.{when◌then◌else◌, Span, span, nowhere}
 use Rattle.rules.specs.Tokens.{token_in, directive, next_token, upper}
 use Rattle.rules.specs.Words.{Field, Row, find, instructions, directives}
 use Rattle.rules.specs.Statements.{Name, is_mark, as_word, as_directive, past_lines, past_labels, past_label, labels_at, name_at}
@@ -57,24 +57,24 @@ module _ (s : List ℕ) (i : ℕ) (t : Lexeme) (h : Stands s i t) where
 -- OPERANDS
 module _ (s : List ℕ) (i place : ℕ) (t : Lexeme) (h : Stands s i t) (f : code.Field) where
   pub last-operand : place ≤ t.start → meant (Operand f) ≡ due_from s (field_of f ∷ []) i place
-  unfolding meant due_from if◌then◌else◌
+  unfolding meant due_from when◌then◌else◌
   last-operand l = rw (start_is s i t h, le-leb place t.start l)
 
   pub last_line : t.start < place → meant LineEnd ≡ due_from s (field_of f ∷ []) i place
-  unfolding meant due_from if◌then◌else◌
+  unfolding meant due_from when◌then◌else◌
   last_line l = rw (start_is s i t h, lt-leb place t.start l)
 
   pub due-operand : place ≤ t.start → onward (go.Found (Operand f)) ≡ operand_or s (field_of f) i place
-  unfolding meant onward operand_or if◌then◌else◌
+  unfolding meant onward operand_or when◌then◌else◌
   due-operand l = rw (start_is s i t h, le-leb place t.start l)
 
   module _ (u : Lexeme) (k : Stands s t.end u) (l : t.start < place) where
     pub due-comma : place ≤ u.start → onward (go.Found Comma) ≡ operand_or s (field_of f) i place
-    unfolding meant onward operand_or if◌then◌else◌
+    unfolding meant onward operand_or when◌then◌else◌
     due-comma m = rw (start_is s i t h, lt-leb place t.start l, end_is s i t h, start_is s t.end u k, le-leb place u.start m)
 
     pub due-next : u.start < place → onward (go.Next u.end) ≡ operand_or s (field_of f) i place
-    unfolding meant onward operand_or if◌then◌else◌
+    unfolding meant onward operand_or when◌then◌else◌
     due-next m = rw (start_is s i t h, lt-leb place t.start l, end_is s i t h, start_is s t.end u k, lt-leb place u.start m, end_is s t.end u k)
 
 module _ (s : List ℕ) (f g : Field) (fs : List Field) (i place : ℕ) (o : step.Onward) (h : onward o ≡ operand_or s f i place) where
@@ -127,10 +127,10 @@ module _ (s : List ℕ) (t : Lexeme) where
   directive-in e i h = (token-ends s i (token_in (kind_by s t.sort t) (span t.start t.end)) (h.token (omega arith))).most (ap (is_mark 0) (directive-kind e))
 
   directive-name : (a : ℕ) → t.end ≤ length s → label_text s a t.end ≡ part s a t.end
-  unfolding label_text part if◌then◌else◌
+  unfolding label_text part when◌then◌else◌
   directive-name a l = rw (le-leb t.end (length s) l) (go' (dec_le a t.end))
     where
-      go' : Dec (a ≤ t.end) → (if leb a t.end then take (t.end - a) (drop a s) else []) ≡ take (t.end - a) (drop a s)
+      go' : Dec (a ≤ t.end) → (when leb a t.end then take (t.end - a) (drop a s) else []) ≡ take (t.end - a) (drop a s)
       go' (yes m) = rw (le-leb a t.end m)
       go' (no m) = let z : t.end - a ≡ 0 = omega arith in rw (lt-leb a t.end (omega arith), z)
 
@@ -147,7 +147,7 @@ module _ (s : List ℕ) (t : Lexeme) where
   code-directive n e p q i h = directive-coded e (q ∙ ap (λ (l : List ℕ). code_from 32 (map upper l) directives) (p ∙ directive-name (t.start + 1) (directive-in e i h)))
 
   pub code-nameless : t.sort ≡ 6 → t.end ≤ t.start → (i : ℕ) → Stands s i t → Coding (row_of (kind_by s t.sort t)) 38
-  unfolding part code_from directives if◌then◌else◌
+  unfolding part code_from directives when◌then◌else◌
   code-nameless e l i h = directive-coded e (let z : t.end - (t.start + 1) ≡ 0 = omega arith in rw z refl)
 
   no-row : (k : ℕ) → (k ≡ 5 → ⊥) → (k ≡ 6 → ⊥) → (k ≡ 3 → find (name_of s t) instructions ≡ none) → row_of (kind_by s k t) ≡ none
@@ -194,7 +194,7 @@ module _ (s : List ℕ) (place : ℕ) {first : ℕ} (w : Walk) (e : first ≡ li
 
   pub at-behind :
       {x : Wanted} → t.start < place → ((i : ℕ) → Stands s i t → x ≡ due_behind s (row_of (kind_by s t.sort t)) t.end place) → x ≡ due_at s place
-  unfolding due_by due_behind row_of as_directive as_word if◌then◌else◌
+  unfolding due_by due_behind row_of as_directive as_word when◌then◌else◌
   at-behind {x} l q = go' (dec_lt t.sort fault_sort)
     where
       go' : Dec (NoFault t) → x ≡ due_at s place
@@ -218,11 +218,11 @@ module _ (s : List ℕ) (place : ℕ) {first : ℕ} (w : Walk) (e : first ≡ li
   heads (suc (suc (suc (suc (suc (suc (suc (suc (suc (suc k)))))))))) b = refl
 
   pub at-directive : place ≤ t.start → t.sort ≡ 6 → meant Directive ≡ due_at s place
-  unfolding due_by due_head as_directive kind_at meant if◌then◌else◌
+  unfolding due_by due_head as_directive kind_at meant when◌then◌else◌
   at-directive l z = sym (at_key ∙ (rw (k.token.token (omega arith), due_by, le-leb place t.start l, z, due_head) refl))
 
   pub at-statement : place ≤ t.start → (t.sort ≡ 6 → ⊥) → meant Statement ≡ due_at s place
-  unfolding due_by meant if◌then◌else◌
+  unfolding due_by meant when◌then◌else◌
   at-statement l z = go' (dec_lt t.sort fault_sort)
     where
       go' : Dec (NoFault t) → statement ≡ due_at s place

@@ -1,7 +1,7 @@
 -- What is due at a place of a statement. A statement's tokens but its labels stand on one line: so it is read from the beginning of the place's line. Assumes nothing.
 use Rattle.std.specs.Prelude.{ℕ, List, [], ◌∷◌, leb}
 use Rattle.std.proofs.Math.Option.{Option, none, some}
-use Rattle.rules.specs.Base.{if◌then◌else◌, Outcome, ok, refused, Span, nowhere}
+use Rattle.rules.specs.Base.{when◌then◌else◌, Outcome, ok, refused, Span, nowhere}
 use Rattle.rules.specs.Tokens.{Kind, Token, next_token}
 use Rattle.rules.specs.Words.{Field, Row, find, instructions, directives}
 use Rattle.rules.specs.Statements.{Name, as_word, as_directive, past_lines, past_labels, labels_at}
@@ -27,14 +27,14 @@ pub data Onward : Type 0 where
 -- an operand that stands at i or after it, and the comma behind it: the first of the two that does not stand before the place is due there
 unfoldable pub operand_or : List ℕ → Field → (i place : ℕ) → Onward
 operand_or s f i place =
-    if leb place (start_at s i) then found (operand f)
-    else if leb place (start_at s (end_at s i)) then found comma
+    when leb place (start_at s i) then found (operand f)
+    else when leb place (start_at s (end_at s i)) then found comma
     else next (end_at s (end_at s i))
 
 -- operands from i on, with commas between them, then the end of the line
 unfoldable pub due_from : List ℕ → List Field → (i place : ℕ) → Wanted
 due_from s [] i place = line_end
-due_from s (f ∷ []) i place = if leb place (start_at s i) then operand f else line_end
+due_from s (f ∷ []) i place = when leb place (start_at s i) then operand f else line_end
 due_from s (f ∷ g ∷ gs) i place = elim (operand_or s f i place) [ found w ↦ w | next j ↦ due_from s (g ∷ gs) j place ]
 
 -- the row of an instruction or a directive
@@ -56,7 +56,7 @@ due_head k = elim (as_directive k) [ some d ↦ directive | none ↦ statement ]
 -- by the token that stands after the labels
 unfoldable pub due_by : List ℕ → ℕ → Outcome Token → Wanted
 due_by s place (refused r) = statement
-due_by s place (ok t) = if leb place t.place.start then due_head t.kind else due_behind s (row_of t.kind) t.place.stop place
+due_by s place (ok t) = when leb place t.place.start then due_head t.kind else due_behind s (row_of t.kind) t.place.stop place
 
 unfoldable pub due_at : List ℕ → ℕ → Wanted
 due_at s place = due_by s place (next_token s (past_lines s (past_labels s (line_start s place))))

@@ -3,7 +3,7 @@ use Prim.Native.Nat.{ℕ, ◌+◌, ◌-◌, ◌≤◌, ◌<◌}
 use mathlib.Core.Path.{◌≡◌, refl}
 use mathlib.Core.List.{List, [], ◌∷◌}
 use borrow.Author.Tests.{lt-ltb, le-ltb, eq-eqb, ne_eqb}
-use Rattle.rules.specs.Base.{if◌then◌else◌, bytes}
+use Rattle.rules.specs.Base.{when◌then◌else◌, bytes}
 use Rattle.rules.specs.Words.{signed, offset}
 use Rattle.lex.specs.Label.{label_text}
 use Rattle.parse_labels.specs.Names.{name_from, Between}
@@ -21,11 +21,11 @@ use Rattle.view_far.proofs.Finding.{found-passes}
 
 -- HOW FAR
 pub distance-after : {b c d : List ℕ} {at m e v : ℕ} (n : ℕ) → n < 32768 → v ≡ n → Put b c at m (counted v (bytes "word")) → Put c d m e (bytes " after") → Put b d at e (distance_text n)
-unfolding distance_text if◌then◌else◌
+unfolding distance_text when◌then◌else◌
 distance-after n h q p r = rw (lt-ltb n 32768 h, ← q) (put-more p r)
 
 pub distance-before : {b c d : List ℕ} {at m e v : ℕ} (n : ℕ) → 32768 ≤ n → v ≡ 65536 - n → Put b c at m (counted v (bytes "word")) → Put c d m e (bytes " before") → Put b d at e (distance_text n)
-unfolding distance_text if◌then◌else◌
+unfolding distance_text when◌then◌else◌
 distance-before n h q p r = rw (le-ltb n 32768 h, ← q) (put-more p r)
 
 -- HOW FAR IT REACHES
@@ -38,11 +38,11 @@ unfolding reach_text decimal digits_in
 reach11 = refl
 
 pub reach_near : {b c : List ℕ} {at e : ℕ} (n : ℕ) → n ≡ 512 → Put b c at e (bytes "this operand reaches from 256 before it to 255 after it") → Put b c at e (reach_text (range_by n))
-unfolding if◌then◌else◌
+unfolding when◌then◌else◌
 reach_near n h p = rw (eq-eqb n 512 h) (put_same reach9 p)
 
 pub reach_far : {b c : List ℕ} {at e : ℕ} (n : ℕ) → (n ≡ 512 → ⊥) → Put b c at e (bytes "this operand reaches from 1024 before it to 1023 after it") → Put b c at e (reach_text (range_by n))
-unfolding if◌then◌else◌
+unfolding when◌then◌else◌
 reach_far n h p = rw (ne_eqb n 512 h) (put_same reach11 p)
 
 -- THE LINE

@@ -7,7 +7,7 @@ use mathlib.Core.Option.{Option, none, some}
 use native.Mathlib.Decide.{dec_le}
 use native.Mathlib.Omega.{arith}
 use lib.ListN.{length}
-use Rattle.rules.specs.Base.{if◌then◌else◌, Outcome, ok, refused}
+use Rattle.rules.specs.Base.{when◌then◌else◌, Outcome, ok, refused}
 use Rattle.rules.specs.Tokens.{lexed}
 use Rattle.rules.specs.Statements.{Stmt, next_statement, statements_at, statements}
 use Rattle.rules.specs.Passes.{word_len}
@@ -31,11 +31,11 @@ use Rattle.view_far.specs.Seeking.{Pointed, Tells}
 -- THE ADDRESS BEHIND A STATEMENT
 module _ (src : List ℕ) (st : Statement) (a : ℕ) {b : Bool} (q : b ≡ is_orig (meant_op st.op)) where
   pub after-orig : b ≡ true → (at : ℕ) (s : Stmt) → Faithful src at st s → st.bits ≡ address_after s a
-  unfolding address_after if◌then◌else◌
+  unfolding address_after when◌then◌else◌
   after-orig h at s f = rw (f.op, ← q, h) (sym f.bits)
 
   pub after-words : {n : ℕ} → b ≡ false → ((at : ℕ) (s : Stmt) → Faithful src at st s → n ≡ word_len s.op s) → (at : ℕ) (s : Stmt) → Faithful src at st s → (a + n) % 65536 ≡ address_after s a
-  unfolding address_after if◌then◌else◌
+  unfolding address_after when◌then◌else◌
   after-words h k at s f =
       let z : is_orig s.op ≡ false = ap is_orig f.op ∙ (sym q ∙ h) in
       rw (z, ← k at s f) refl

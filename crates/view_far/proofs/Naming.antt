@@ -9,7 +9,7 @@ use native.Mathlib.Omega.{arith}
 use borrow.Author.Tests.{le-leb, lt-ltb, le-ltb, eqb-true, eqb-false}
 use lib.Dec.{eqb, ltb}
 use lib.ListN.{length}
-use Rattle.rules.specs.Base.{if◌then◌else◌, same}
+use Rattle.rules.specs.Base.{when◌then◌else◌, same}
 use Rattle.rules.specs.Tokens.{upper}
 use Rattle.rules.specs.Words.{signed}
 use Rattle.rules.specs.Statements.{Name, Target, Stmt, past_lines, past_label, labels_at}
@@ -50,20 +50,20 @@ pub record Aims (src : List ℕ) (st : Statement) (s : Stmt) : Type 0 where
 
 module _ (st : Statement) (place : ℕ) (src : List ℕ) (at : ℕ) (s : Stmt) (f : Faithful src at st s) where
   pub aims-tested : {b : Bool} → b ≡ is_instr (meant_op st.op) → ((b && ltb 0 st.reach) && eqb st.label_start place) ≡ aims_at place s
-  unfolding aims_at aim_of begins if◌then◌else◌
+  unfolding aims_at aim_of begins when◌then◌else◌
   aims-tested {b} q = go (dec_lt 0 st.reach) b (ap is_instr f.op ∙ sym q)
     where
-      go : Dec (0 < st.reach) → (b : Bool) → is_instr s.op ≡ b → ((b && ltb 0 st.reach) && eqb st.label_start place) ≡ begins place (if is_instr s.op then s.target else none)
+      go : Dec (0 < st.reach) → (b : Bool) → is_instr s.op ≡ b → ((b && ltb 0 st.reach) && eqb st.label_start place) ≡ begins place (when is_instr s.op then s.target else none)
       go (yes l) true e = let a = f.aimed (λ z. omega arith) in rw (e, a.is, lt-ltb 0 st.reach l, a.name) refl
       go (yes l) false e = rw e refl
       go (no l) true e = rw (e, f.bare (omega arith), le-ltb 0 st.reach (omega arith)) refl
       go (no l) false e = rw e refl
 
   range-is : (a : Aimed src st s.target) → st.op ≡ op.Instr → a.target.field ≡ range_by st.reach
-  unfolding if◌then◌else◌
+  unfolding when◌then◌else◌
   range-is a o = go (eqb st.reach 512) refl
     where
-      go : (b : Bool) → eqb st.reach 512 ≡ b → a.target.field ≡ (if b then signed 9 else signed 11)
+      go : (b : Bool) → eqb st.reach 512 ≡ b → a.target.field ≡ (when b then signed 9 else signed 11)
       go true e = a.near o (eqb-true st.reach 512 e)
       go false e = a.far o (eqb-false st.reach 512 e)
 
@@ -71,10 +71,10 @@ module _ (st : Statement) (place : ℕ) (src : List ℕ) (at : ℕ) (s : Stmt) (
   target_is a o = let r = range-is a o in λ c. record { field = r c; name = a.name c }
 
   pub aims-found : aims_at place s ≡ true → Aims src st s
-  unfolding aims_at aim_of begins if◌then◌else◌
+  unfolding aims_at aim_of begins when◌then◌else◌
   aims-found h = go (is_instr s.op) refl (dec_lt 0 st.reach) h
     where
-      go : (b : Bool) → is_instr s.op ≡ b → Dec (0 < st.reach) → begins place (if b then s.target else none) ≡ true → Aims src st s
+      go : (b : Bool) → is_instr s.op ≡ b → Dec (0 < st.reach) → begins place (when b then s.target else none) ≡ true → Aims src st s
       go true e (yes l) h =
           let a = f.aimed (λ z. omega arith) in
           let o = instr-op st.op (sym (ap is_instr f.op) ∙ e) in
@@ -84,7 +84,7 @@ module _ (st : Statement) (place : ℕ) (src : List ℕ) (at : ℕ) (s : Stmt) (
 
 -- LABELS, one by one
 text-there : (s : List ℕ) (a e : ℕ) → a ≤ e → e ≤ length s → name_from s a (e - a) ≡ name_at s a e
-unfolding name_at label_text part if◌then◌else◌
+unfolding name_at label_text part when◌then◌else◌
 text-there s a e h g = rw (le-leb a e h, le-leb e (length s) g) refl
 
 pub between-name : (s : List ℕ) (a e : ℕ) → Between s a e → name_from s a (e - a) ≡ name_at s a e

@@ -1,7 +1,7 @@
 -- The note of 29: how far a label is from the instruction behind the one that names it, and how far that operand reaches. Assumes nothing.
 use Rattle.std.specs.Prelude.{ℕ, ◌+◌, ◌-◌, ◌%◌, Bool, true, false, ◌||◌, List, [], ◌∷◌, ◌++◌, eqb, ltb}
 use Rattle.std.proofs.Math.Option.{Option, none, some}
-use Rattle.rules.specs.Base.{if◌then◌else◌, bytes, same, ok, refused}
+use Rattle.rules.specs.Base.{when◌then◌else◌, bytes, same, ok, refused}
 use Rattle.rules.specs.Listing.{lf}
 use Rattle.rules.specs.Words.{Range, offset, Op, instr, orig, fill, blkw, stringz, end, external}
 use Rattle.rules.specs.Statements.{Name, Target, Stmt}
@@ -21,7 +21,7 @@ is_orig end = false
 is_orig external = false
 
 unfoldable pub address_after : Stmt → ℕ → ℕ
-address_after s a = if is_orig s.op then s.bits else ((a + word_len s.op s) % 65536)
+address_after s a = when is_orig s.op then s.bits else ((a + word_len s.op s) % 65536)
 
 -- a statement and its address
 pub record Placed : Type 0 where
@@ -51,7 +51,7 @@ is_instr end = false
 is_instr external = false
 
 unfoldable pub aim_of : Stmt → Option Target
-aim_of s = if is_instr s.op then s.target else none
+aim_of s = when is_instr s.op then s.target else none
 
 -- which begins at a place;
 unfoldable pub begins : ℕ → Option Target → Bool
@@ -71,7 +71,7 @@ has_label w s = named w s.labels
 
 -- THE NOTE. An offset of sixteen bits, taken as signed: so many words after, or before
 unfoldable pub distance_text : ℕ → List ℕ
-distance_text d = if ltb d 32768 then (counted d (bytes "word") ++ bytes " after") else (counted (65536 - d) (bytes "word") ++ bytes " before")
+distance_text d = when ltb d 32768 then (counted d (bytes "word") ++ bytes " after") else (counted (65536 - d) (bytes "word") ++ bytes " before")
 
 unfoldable pub reach_text : Range → List ℕ
 reach_text r = bytes "this operand reaches from " ++ decimal r.low ++ bytes " before it to " ++ decimal r.high ++ bytes " after it"

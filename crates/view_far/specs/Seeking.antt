@@ -1,7 +1,7 @@
 -- What the code's answers say of statements and their addresses. Assumes nothing.
 use Rattle.std.specs.Prelude.{ℕ, ◌<◌, Bool, List, map, ◌≡◌, eqb}
 use Rattle.std.proofs.Math.Option.{Option, none, some}
-use Rattle.rules.specs.Base.{if◌then◌else◌}
+use Rattle.rules.specs.Base.{when◌then◌else◌}
 use Rattle.rules.specs.Tokens.{upper}
 use Rattle.rules.specs.Words.{Range, signed}
 use Rattle.rules.specs.Statements.{Target, Stmt}
@@ -39,7 +39,7 @@ pub record Tells (s : List ℕ) (o : Option Placed) (r : Found) : Type 0 where
 
 -- an instruction's field, by how many values it has
 abbrev pub range_by : ℕ → Range
-range_by r = if eqb r 512 then signed 9 else signed 11
+range_by r = when eqb r 512 then signed 9 else signed 11
 
 -- the label operand of an instruction
 abbrev pub aimed : List ℕ → Statement → Target

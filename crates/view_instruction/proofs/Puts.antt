@@ -3,7 +3,7 @@ use Prim.Native.Nat.{ℕ, ◌+◌, ◌-◌, ◌%◌, ◌<◌, ◌≤◌}
 use mathlib.Core.Path.{◌≡◌, refl, sym, ap}
 use mathlib.Core.List.{List, [], ◌∷◌, ◌++◌, append-nil, append_assoc}
 use borrow.Author.Tests.{lt-ltb, le-ltb}
-use Rattle.rules.specs.Base.{if◌then◌else◌, bytes}
+use Rattle.rules.specs.Base.{when◌then◌else◌, bytes}
 use Rattle.isa.specs.Instructions.{meant}
 use Rattle.isa.specs.Disassembly.{meant_line}
 use Rattle.isa.specs.declared.AsmInstr.{AsmInstr}
@@ -22,11 +22,11 @@ module _ {b c d : List ℕ} {at m e : ℕ} where
   reg-put r q p1 p2 p3 = put_same (rw (q, append_assoc) refl) (put-more (put-more p1 p2) p3)
 
   pub plus-put : (n v : ℕ) → v < 32768 → n ≡ v → Put b c at m (35 ∷ []) → Put c d m e (decimal n) → Put b d at e (signed_text v)
-  unfolding signed_text if◌then◌else◌
+  unfolding signed_text when◌then◌else◌
   plus-put n v h q p1 p2 = rw (lt-ltb v 32768 h) (put_same (rw q refl) (put-more p1 p2))
 
   pub minus-put : (n v : ℕ) → 32768 ≤ v → n ≡ v → Put b c at m (35 ∷ 45 ∷ []) → Put c d m e (decimal (65536 - n)) → Put b d at e (signed_text v)
-  unfolding signed_text if◌then◌else◌
+  unfolding signed_text when◌then◌else◌
   minus-put n v h q p1 p2 = rw (le-ltb v 32768 h) (put_same (rw q refl) (put-more p1 p2))
 
   pub number_put : {s : List ℕ} (v : ℕ) → Put b c at m s → Put c d m e (signed_text v) → Put b d at e (s ++ part_text (number v))

@@ -1,7 +1,7 @@
 -- A line of disassembly as a person reads it: an instruction's mnemonic and operands, or a fill; and how far it reaches. Assumes nothing.
 use Rattle.std.specs.Prelude.{ℕ, ◌+◌, ◌-◌, ◌%◌, List, [], ◌∷◌, ◌++◌, ltb, get_or}
 use Rattle.std.proofs.Math.Option.{Option, none, some}
-use Rattle.rules.specs.Base.{if◌then◌else◌, bytes}
+use Rattle.rules.specs.Base.{when◌then◌else◌, bytes}
 use Rattle.rules.specs.Words.{Operand, register, value, Instr, ADD, AND, NOT, BR, JMP, JSRR, JSR, NOP, LD, LDI, LEA, ST, STI, LDR, STR, TRAP, RET, RTI, GETC, OUT, PUTC, PUTS, IN, PUTSP, HALT, Line, instruction, filled}
 use Rattle.view_text.specs.Texts.{decimal, hex_text, hex_text2}
 
@@ -62,7 +62,7 @@ reg_text r = bytes "R" ++ ((48 + r % 8) ∷ [])
 
 -- sixteen bits as a signed number, in decimal
 unfoldable pub signed_text : ℕ → List ℕ
-signed_text d = if ltb d 32768 then bytes "#" ++ decimal d else bytes "#-" ++ decimal (65536 - d)
+signed_text d = when ltb d 32768 then bytes "#" ++ decimal d else bytes "#-" ++ decimal (65536 - d)
 
 unfoldable pub part_text : Part → List ℕ
 part_text (reg r) = reg_text r

@@ -9,7 +9,7 @@ use borrow.Author.Tests.{lt-ltb, le-ltb, le-leb, lt-leb, eq-eqb, ne_eqb}
 use lib.Dec.{eqb, leb, ltb}
 use lib.ListN.{length, get_or, take, drop}
 use lib.Seq.{take-suc, take_all}
-use Rattle.rules.specs.Base.{if◌then◌else◌, bytes}
+use Rattle.rules.specs.Base.{when◌then◌else◌, bytes}
 use Rattle.lex_token.specs.Meant.{part}
 use Rattle.view_places.specs.Lines.{line_start, line_stop}
 use Rattle.view_text.specs.Put.{Put}
@@ -28,29 +28,29 @@ module _ (f : ℕ → ℕ) (t : List ℕ) where
 -- a byte as it is shown, and what stands under one
 module _ (b : ℕ) where
   pub shown-as-is : (eqb b 9 || (leb 32 b && ltb b 127)) ≡ true → b ≡ shown_byte b
-  unfolding shown_byte if◌then◌else◌
+  unfolding shown_byte when◌then◌else◌
   shown-as-is h = rw h
 
   pub shown-hidden : (eqb b 9 || (leb 32 b && ltb b 127)) ≡ false → 63 ≡ shown_byte b
-  unfolding shown_byte if◌then◌else◌
+  unfolding shown_byte when◌then◌else◌
   shown-hidden h = rw h
 
   pub under-tab : (mark : ℕ) → b ≡ 9 → b ≡ under_byte mark b
-  unfolding under_byte if◌then◌else◌
+  unfolding under_byte when◌then◌else◌
   under-tab mark h = rw (eq-eqb b 9 h)
 
   pub under-other : (mark : ℕ) → (b ≡ 9 → ⊥) → mark ≡ under_byte mark b
-  unfolding under_byte if◌then◌else◌
+  unfolding under_byte when◌then◌else◌
   under-other mark h = rw (ne_eqb b 9 h)
 
 -- the window
 module _ (first last place : ℕ) where
   pub window-whole : {d : ℕ} → d ≡ last - first → d ≤ 100 → first ≡ window_start first last place
-  unfolding window_start if◌then◌else◌
+  unfolding window_start when◌then◌else◌
   window-whole e h = rw (le-leb (last - first) 100 (omega (arith, e, h)))
 
   pub window-part : {d m k : ℕ} → d ≡ last - first → 100 < d → m ≡ place - first → k ≡ m - 60 → first + k ≡ window_start first last place
-  unfolding window_start if◌then◌else◌
+  unfolding window_start when◌then◌else◌
   window-part e h f g = rw (lt-leb (last - first) 100 (omega (arith, e, h)), g, f)
 
 pub window-stops : (start last : ℕ) {d k : ℕ} → d ≡ last - start → k ≡ min 100 d → start + k ≡ window_stop start last
@@ -71,11 +71,11 @@ least-in e q h = omega arith
 
 -- what stands for bytes that are left out
 pub between-some : {b c : List ℕ} {at e x y : ℕ} (t : List ℕ) → x < y → Put b c at e t → Put b c at e (between x y t)
-unfolding between if◌then◌else◌
+unfolding between when◌then◌else◌
 between-some {x = x} {y = y} t h p = rw (lt-ltb x y h) p
 
 pub between_none : (b : List ℕ) (at x y : ℕ) (t : List ℕ) → y ≤ x → Put b b at at (between x y t)
-unfolding between if◌then◌else◌
+unfolding between when◌then◌else◌
 between_none b at x y t h = rw (le-ltb x y h) (put-none b at)
 
 -- the lines
@@ -96,11 +96,11 @@ module _ (s : List ℕ) {b c d f g i : List ℕ} {at j k l m e : ℕ} where
 
 module _ (s : List ℕ) {b c : List ℕ} {at e place stop : ℕ} where
   pub carets-some : place < stop → Put b c at e (map (under_byte 94) (take (stop - place) (drop place s))) → Put b c at e (carets s place stop)
-  unfolding carets part if◌then◌else◌
+  unfolding carets part when◌then◌else◌
   carets-some h p = rw (lt-ltb place stop h) p
 
   pub carets-one : stop ≤ place → Put b c at e (94 ∷ []) → Put b c at e (carets s place stop)
-  unfolding carets if◌then◌else◌
+  unfolding carets when◌then◌else◌
   carets-one h p = rw (le-ltb place stop h) p
 
 pub underlined-put :

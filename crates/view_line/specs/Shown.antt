@@ -1,28 +1,28 @@
 -- A place of a source as a person is shown it: its line, or a window of a long one, and carets under the place. Assumes nothing.
 use Rattle.std.specs.Prelude.{ℕ, ◌+◌, ◌-◌, min, ◌&&◌, ◌||◌, List, [], ◌++◌, map, eqb, leb, ltb}
-use Rattle.rules.specs.Base.{if◌then◌else◌, bytes}
+use Rattle.rules.specs.Base.{when◌then◌else◌, bytes}
 use Rattle.rules.specs.Listing.{lf}
 use Rattle.lex_token.specs.Meant.{part}
 use Rattle.view_places.specs.Lines.{line_start, line_stop}
 
 -- a byte as it is shown, in one column but for a tab: what is not printable is a question mark
 unfoldable pub shown_byte : ℕ → ℕ
-shown_byte b = if eqb b 9 || (leb 32 b && ltb b 127) then b else 63
+shown_byte b = when eqb b 9 || (leb 32 b && ltb b 127) then b else 63
 
 -- what stands under a byte: a tab under a tab, so that both lines keep step, and else this mark
 unfoldable pub under_byte : ℕ → ℕ → ℕ
-under_byte mark b = if eqb b 9 then b else mark
+under_byte mark b = when eqb b 9 then b else mark
 
 -- a line of more than a hundred bytes is shown by a hundred of them, at most sixty before the place
 unfoldable pub window_start : (first last place : ℕ) → ℕ
-window_start first last place = if leb (last - first) 100 then first else (first + (place - first - 60))
+window_start first last place = when leb (last - first) 100 then first else (first + (place - first - 60))
 
 unfoldable pub window_stop : (start last : ℕ) → ℕ
 window_stop start last = start + min 100 (last - start)
 
 -- a text that stands for bytes which are left out between two places
 unfoldable pub between : ℕ → ℕ → List ℕ → List ℕ
-between a b t = if ltb a b then t else []
+between a b t = when ltb a b then t else []
 
 -- the line from `first` to `last`, of which the bytes from `start` to `stop` are shown
 unfoldable pub shown_line : List ℕ → (first start stop last : ℕ) → List ℕ
@@ -31,7 +31,7 @@ shown_line s first start stop last =
 
 -- carets under the bytes of a place; one where there are none
 unfoldable pub carets : List ℕ → (place end : ℕ) → List ℕ
-carets s place end = if ltb place end then map (under_byte 94) (part s place end) else bytes "^"
+carets s place end = when ltb place end then map (under_byte 94) (part s place end) else bytes "^"
 
 -- under that line: spaces up to the place, then carets
 unfoldable pub caret_line : List ℕ → (first start place end : ℕ) → List ℕ

@@ -6,7 +6,7 @@ use mathlib.Core.List.{List, [], ◌∷◌, ◌++◌}
 use native.Mathlib.Decide.{dec_lt}
 use native.Mathlib.Omega.{arith}
 use borrow.Author.Tests.{eq-eqb, ne_eqb}
-use Rattle.rules.specs.Base.{if◌then◌else◌, bytes}
+use Rattle.rules.specs.Base.{when◌then◌else◌, bytes}
 use Rattle.rules.specs.Words.{Field}
 use Rattle.rules.specs.Statements.{as_number}
 use Rattle.lex_token.specs.Meant.{kind_at}
@@ -107,24 +107,24 @@ takes-put s place f p q r t u = put-more (put-more (put-more (put-more p q) r) t
 
 module _ (s : List ℕ) (n place : ℕ) (f : Field) where
   pub operand-range : {b c : List ℕ} {at e : ℕ} → n ≡ 15 → Put b c at e (takes_text s place f) → Put b c at e (operand_text s n place f)
-  unfolding operand_text if◌then◌else◌
+  unfolding operand_text when◌then◌else◌
   operand-range h p = rw (eq-eqb n 15 h) p
 
   pub operand-kind : {b c d : List ℕ} {at m e : ℕ} → (n ≡ 15 → ⊥) → Put b c at m (field_text f) → Put c d m e (bytes " is due here") → Put b d at e (operand_text s n place f)
-  unfolding operand_text if◌then◌else◌
+  unfolding operand_text when◌then◌else◌
   operand-kind h p q = rw (ne_eqb n 15 h) (put-more p q)
 
 -- LABELS
 module _ (s : List ℕ) (place : ℕ) (x : Place) (q : span_of x ≡ label_before s place) where
   pub label-none : (b : List ℕ) (at : ℕ) → x.end ≡ 0 → Put b b at at (label_words s place)
-  unfolding label_words labelled if◌then◌else◌
+  unfolding label_words labelled when◌then◌else◌
   label-none b at h = rw (← q, eq-eqb x.end 0 h) (put-none b at)
 
   pub label-some :
       (w : List ℕ) {b c d f : List ℕ} {at j k e : ℕ}
       → (x.end ≡ 0 → ⊥) → w ≡ label_text s x.start x.end → Put b c at j (bytes "; ") → Put c d j k w → Put d f k e (bytes " before it was read as a label")
       → Put b f at e (label_words s place)
-  unfolding label_words labelled if◌then◌else◌
+  unfolding label_words labelled when◌then◌else◌
   label-some w h g p r t = rw (← q, ne_eqb x.end 0 h) (put-more (put-more p (put_same g r)) t)
 
 -- WHAT IS DUE
@@ -152,14 +152,14 @@ module _ (s : List ℕ) (n place : ℕ) (d : Due) (q : meant d ≡ due_at s plac
 
 -- THE NOTE
 pub note-far : (s : List ℕ) (n place : ℕ) {b c : List ℕ} {at e : ℕ} → n ≡ 29 → Put b c at e (far_note s place) → Put b c at e (note_text s n place)
-unfolding note_text if◌then◌else◌
+unfolding note_text when◌then◌else◌
 note-far s n place h p = rw (eq-eqb n 29 h) p
 
 module _ (s : List ℕ) (n place : ℕ) (o : n ≡ 29 → ⊥) {t : Bool} (q : t ≡ has_note n) where
   pub note-put : {b c d f : List ℕ} {at j k e : ℕ} → t ≡ true → Put b c at j (bytes "note: ") → Put c d j k (said_at s n place) → Put d f k e (10 ∷ []) → Put b f at e (note_text s n place)
-  unfolding note_text due_note if◌then◌else◌
+  unfolding note_text due_note when◌then◌else◌
   note-put h p r u = rw (ne_eqb n 29 o, sym q ∙ h) (put-more (put-more p r) u)
 
   pub note-none : (b : List ℕ) (at : ℕ) → t ≡ false → Put b b at at (note_text s n place)
-  unfolding note_text due_note if◌then◌else◌
+  unfolding note_text due_note when◌then◌else◌
   note-none b at h = rw (ne_eqb n 29 o, sym q ∙ h) (put-none b at)

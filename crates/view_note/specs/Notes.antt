@@ -1,7 +1,7 @@
 -- A note under a refused place: what was due there, what the operand takes and what stands there, or how far its label is. Assumes nothing.
 use Rattle.std.specs.Prelude.{ℕ, zero, suc, Bool, ◌||◌, List, [], ◌++◌, eqb}
 use Rattle.std.proofs.Math.Option.{none, some}
-use Rattle.rules.specs.Base.{if◌then◌else◌, bytes, ok, refused, Span}
+use Rattle.rules.specs.Base.{when◌then◌else◌, bytes, ok, refused, Span}
 use Rattle.rules.specs.Listing.{lf}
 use Rattle.rules.specs.Tokens.{Num, plus, minus, Kind, next_token}
 use Rattle.rules.specs.Words.{Range, signed, Field, reg, reg_or_imm, num, near, name, string}
@@ -44,11 +44,11 @@ unfoldable pub takes_text : List ℕ → ℕ → Field → List ℕ
 takes_text s place f = bytes "this operand takes " ++ field_text f ++ bytes ", and " ++ number_at s place ++ bytes " stands here"
 
 unfoldable pub operand_text : List ℕ → (n place : ℕ) → Field → List ℕ
-operand_text s n place f = if eqb n 15 then takes_text s place f else (field_text f ++ bytes " is due here")
+operand_text s n place f = when eqb n 15 then takes_text s place f else (field_text f ++ bytes " is due here")
 
 -- the label before the place's statement, which may have been meant for an instruction; nothing where there is none
 unfoldable pub labelled : List ℕ → Span → List ℕ
-labelled s p = if eqb p.stop 0 then [] else (bytes "; " ++ label_text s p.start p.stop ++ bytes " before it was read as a label")
+labelled s p = when eqb p.stop 0 then [] else (bytes "; " ++ label_text s p.start p.stop ++ bytes " before it was read as a label")
 
 unfoldable pub label_words : List ℕ → ℕ → List ℕ
 label_words s place = labelled s (label_before s place)
@@ -69,8 +69,8 @@ unfoldable pub has_note : ℕ → Bool
 has_note n = eqb n 13 || eqb n 14 || eqb n 15
 
 unfoldable pub due_note : List ℕ → (n place : ℕ) → List ℕ
-due_note s n place = if has_note n then (bytes "note: " ++ said_at s n place ++ lf) else []
+due_note s n place = when has_note n then (bytes "note: " ++ said_at s n place ++ lf) else []
 
 -- 29 has one that says how far the label is
 unfoldable pub note_text : List ℕ → (n place : ℕ) → List ℕ
-note_text s n place = if eqb n 29 then far_note s place else due_note s n place
+note_text s n place = when eqb n 29 then far_note s place else due_note s n place

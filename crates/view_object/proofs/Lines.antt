@@ -1,6 +1,6 @@
 -- The pieces of an object's view as they are put. Assumes nothing.
 use Rattle.std.proofs.Common.{◌≡◌, ℕ, suc, ◌+◌, ◌-◌, ◌*◌, ◌%◌, ◌<◌, ◌≤◌, Bool, true, false, List, [], ◌∷◌, ◌++◌, get_or, sym, refl, ap, append_assoc, arith, le-ltb, lt-ltb, eq-eqb, ne_eqb}
-use Rattle.rules.specs.Base.{if◌then◌else◌, bytes}
+use Rattle.rules.specs.Base.{when◌then◌else◌, bytes}
 use Rattle.rules.specs.Objects.{Counts}
 use Rattle.rules.specs.Buffers.{Buffers, name_row}
 use Rattle.view_text.specs.Put.{Put}
@@ -37,31 +37,31 @@ block-put start size last w q1 q2 r1 r2 r3 r4 r5 r6 =
 
 module _ {b : List ℕ} (start size before : ℕ) where
   pub above-first : {c : List ℕ} {e : ℕ} → before ≡ 0 → Put b c 0 e (block_line start size) → Put b c 0 e (above (place start size before))
-  unfolding above if◌then◌else◌
+  unfolding above when◌then◌else◌
   above-first h p = put_same (rw (eq-eqb before 0 h) refl) p
 
   pub above_other : (before ≡ 0 → ⊥) → Put b b 0 0 (above (place start size before))
-  unfolding above if◌then◌else◌
+  unfolding above when◌then◌else◌
   above_other h = put_same (rw (ne_eqb before 0 h) refl) (put-none b 0)
 
 module _ (c : Counts) (ls rs ns : List ℕ) (k a w : ℕ) {b d : List ℕ} {at e : ℕ} where
   pub marked-waiting :
       {r x y : ℕ} → r ≡ reloc_at rs c.relocs a → r < c.relocs → x ≡ get_or rs (r * 2 + 1) 0 → y ≡ x → Put b d at e (waiting_line ls ns c.labels k a y) →
       Put b d at e (marked_line c ls rs ns k a w (reloc_at rs c.relocs a))
-  unfolding marked_line if◌then◌else◌
+  unfolding marked_line when◌then◌else◌
   marked-waiting {r} q h u v p = put_same (rw (sym q, lt-ltb r c.relocs h, v, u) refl) p
 
   pub marked-set :
       {r : ℕ} → r ≡ reloc_at rs c.relocs a → c.relocs ≤ r → Put b d at e (set_line ls ns c.labels k a w) → Put b d at e (marked_line c ls rs ns k a w (reloc_at rs c.relocs a))
-  unfolding marked_line if◌then◌else◌
+  unfolding marked_line when◌then◌else◌
   marked-set {r} q h p = put_same (rw (sym q, le-ltb r c.relocs h) refl) p
 
   pub word-unset : (mark : ℕ) → mark ≡ 0 → Put b d at e (unset_line ls ns c.labels k a) → Put b d at e (word_line c ls rs ns k a w mark)
-  unfolding word_line if◌then◌else◌
+  unfolding word_line when◌then◌else◌
   word-unset mark h p = put_same (rw (eq-eqb mark 0 h) refl) p
 
   pub word_set : (mark : ℕ) → (mark ≡ 0 → ⊥) → Put b d at e (marked_line c ls rs ns k a w (reloc_at rs c.relocs a)) → Put b d at e (word_line c ls rs ns k a w mark)
-  unfolding word_line if◌then◌else◌
+  unfolding word_line when◌then◌else◌
   word_set mark h p = put_same (rw (ne_eqb mark 0 h) refl) p
 
 module _ (c : Counts) (ls rs ns : List ℕ) (w mark : ℕ) {b d f : List ℕ} {m e : ℕ} where
@@ -90,11 +90,11 @@ module _ (c : Counts) (u : Buffers) (i : ℕ) {b : List ℕ} {o : D.Place} where
 -- LABELS
 module _ {b : List ℕ} (k j : ℕ) where
   pub gap-first : {c : List ℕ} {e : ℕ} → k ≡ j → Put b c 0 e (10 ∷ []) → Put b c 0 e (gap_before k j)
-  unfolding gap_before if◌then◌else◌
+  unfolding gap_before when◌then◌else◌
   gap-first h p = put_same (rw (eq-eqb k j h) refl) p
 
   pub gap_other : (k ≡ j → ⊥) → Put b b 0 0 (gap_before k j)
-  unfolding gap_before if◌then◌else◌
+  unfolding gap_before when◌then◌else◌
   gap_other h = put_same (rw (ne_eqb k j h) refl) (put-none b 0)
 
 pub external-put : {b c d f : List ℕ} {at j m e : ℕ} (name : List ℕ) → Put b c at j (bytes "EXTERNAL ") → Put c d j m name → Put d f m e (10 ∷ []) → Put b f at e (external_line name)
@@ -109,37 +109,37 @@ bare-put a name p q r s t = put_same (simp append_assoc refl) (put-more (put-mor
 
 module _ (ls ns : List ℕ) (k : ℕ) {b c : List ℕ} {at e : ℕ} {d : Bool} {name : List ℕ} where
   pub apart-bare-put : {a : ℕ} → d ≡ defined_row ls k → d ≡ true → a ≡ label_address ls k → name ≡ name_row ls ns k → Put b c at e (bare_line a name) → Put b c at e (apart_line ls ns k)
-  unfolding apart_line if◌then◌else◌
+  unfolding apart_line when◌then◌else◌
   apart-bare-put q h u v p = put_same (rw (sym q, h, u, v) refl) p
 
   pub apart-external-put : d ≡ defined_row ls k → d ≡ false → name ≡ name_row ls ns k → Put b c at e (external_line name) → Put b c at e (apart_line ls ns k)
-  unfolding apart_line if◌then◌else◌
+  unfolding apart_line when◌then◌else◌
   apart-external-put q h v p = put_same (rw (sym q, h, v) refl) p
 
 module _ (c : Counts) (bs ls ns : List ℕ) (k : ℕ) {b : List ℕ} {t : Bool} where
   pub label-put :
       {d f : List ℕ} {m e j : ℕ} → t ≡ apart c.blocks bs ls k → t ≡ true → j ≡ first (apart c.blocks bs ls) c.labels → Put b d 0 m (gap_before k j) → Put d f m e (apart_line ls ns k) →
       Put b f 0 e (label_text c bs ls ns k)
-  unfolding label_text if◌then◌else◌
+  unfolding label_text when◌then◌else◌
   label-put q h u p r = put_same (rw (sym q, h, u) refl) (put-more p r)
 
   pub label-none : t ≡ apart c.blocks bs ls k → t ≡ false → Put b b 0 0 (label_text c bs ls ns k)
-  unfolding label_text if◌then◌else◌
+  unfolding label_text when◌then◌else◌
   label-none q h = put_same (rw (sym q, h) refl) (put-none b 0)
 
 -- PIECES
 module _ (c : Counts) (u : Buffers) (i : ℕ) {b : List ℕ} where
   pub rest-word : {d : List ℕ} {e : ℕ} → i < c.words → Put b d 0 e (word_text c u i) → Put b d 0 e (rest_text c u i)
-  unfolding rest_text if◌then◌else◌
+  unfolding rest_text when◌then◌else◌
   rest-word h p = put_same (rw (lt-ltb i c.words h) refl) p
 
   pub rest-label :
       {d : List ℕ} {e : ℕ} → c.words ≤ i → i - c.words < c.labels → Put b d 0 e (label_text c u.blocks u.labels u.names (i - c.words)) → Put b d 0 e (rest_text c u i)
-  unfolding rest_text if◌then◌else◌
+  unfolding rest_text when◌then◌else◌
   rest-label h l p = put_same (rw (le-ltb i c.words h, lt-ltb (i - c.words) c.labels l) refl) p
 
   pub rest-none : c.words ≤ i → c.labels ≤ i - c.words → Put b b 0 0 (rest_text c u i)
-  unfolding rest_text if◌then◌else◌
+  unfolding rest_text when◌then◌else◌
   rest-none h l = put_same (rw (le-ltb i c.words h, le-ltb (i - c.words) c.labels l) refl) (put-none b 0)
 
 module _ (c : Counts) (u : Buffers) (p : ℕ) {b d : List ℕ} {e : ℕ} where

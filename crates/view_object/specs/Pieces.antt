@@ -2,7 +2,7 @@
 -- buffer's end there are zeros. Assumes nothing.
 use Rattle.std.specs.Prelude.{ℕ, zero, suc, ◌+◌, ◌-◌, ◌*◌, ◌%◌, min, Bool, true, false, not, List, [], ◌++◌, ◌==◌, nat_lt, slice_index}
 use Rattle.std.proofs.Math.Option.{Option, none, some}
-use Rattle.rules.specs.Base.{if◌then◌else◌, bytes}
+use Rattle.rules.specs.Base.{when◌then◌else◌, bytes}
 use Rattle.rules.specs.Words.{offset}
 use Rattle.rules.specs.Objects.{Counts}
 use Rattle.rules.specs.Buffers.{Buffers, head_row, name_row}
@@ -40,15 +40,15 @@ unfoldable pub block_line : ℕ → ℕ → List ℕ
 block_line start size = lf ++ bytes "BLOCK " ++ hex_text start ++ bytes " to " ++ hex_text ((start + size + 65535) % 65536) ++ bytes ", " ++ counted size (bytes "word") ++ lf
 
 unfoldable pub above : Place → List ℕ
-above p = if p.before == 0 then block_line p.start p.size else []
+above p = when p.before == 0 then block_line p.start p.size else []
 
 -- WORDS, by the rows of labels and relocations and the name bytes. A word's own line, where the first relocation at its address is row r; k is the row of the label that it shows
 unfoldable pub marked_line : Counts → (ls rs ns : List ℕ) → ℕ → ℕ → ℕ → ℕ → List ℕ
-marked_line c ls rs ns k a w r = if nat_lt r c.relocs then waiting_line ls ns c.labels k a (slice_index rs (r * 2 + 1)) else set_line ls ns c.labels k a w
+marked_line c ls rs ns k a w r = when nat_lt r c.relocs then waiting_line ls ns c.labels k a (slice_index rs (r * 2 + 1)) else set_line ls ns c.labels k a w
 
 -- by its mark
 unfoldable pub word_line : Counts → (ls rs ns : List ℕ) → ℕ → ℕ → ℕ → ℕ → List ℕ
-word_line c ls rs ns k a w mark = if mark == 0 then unset_line ls ns c.labels k a else marked_line c ls rs ns k a w (reloc_at rs c.relocs a)
+word_line c ls rs ns k a w mark = when mark == 0 then unset_line ls ns c.labels k a else marked_line c ls rs ns k a w (reloc_at rs c.relocs a)
 
 -- the labels at an address, all but the last in lines of their own, and the word's line
 unfoldable pub address_lines : Counts → (ls rs ns : List ℕ) → ℕ → ℕ → ℕ → ℕ → List ℕ
@@ -79,7 +79,7 @@ label_address ls k = slice_index ls (k * 4) % 65536
 
 -- external, or defined where no word is
 unfoldable pub apart : ℕ → List ℕ → List ℕ → ℕ → Bool
-apart n bs ls k = if defined_row ls k then not (has_word bs n (label_address ls k)) else true
+apart n bs ls k = when defined_row ls k then not (has_word bs n (label_address ls k)) else true
 
 unfoldable pub external_line : List ℕ → List ℕ
 external_line name = bytes "EXTERNAL " ++ name ++ lf
@@ -88,18 +88,18 @@ unfoldable pub bare_line : ℕ → List ℕ → List ℕ
 bare_line a name = bytes "LABEL " ++ hex_text a ++ bytes " " ++ name ++ bytes ", where no word is" ++ lf
 
 unfoldable pub apart_line : List ℕ → List ℕ → ℕ → List ℕ
-apart_line ls ns k = if defined_row ls k then bare_line (label_address ls k) (name_row ls ns k) else external_line (name_row ls ns k)
+apart_line ls ns k = when defined_row ls k then bare_line (label_address ls k) (name_row ls ns k) else external_line (name_row ls ns k)
 
 -- an empty line before the first of them
 unfoldable pub gap_before : ℕ → ℕ → List ℕ
-gap_before k first_apart = if k == first_apart then lf else []
+gap_before k first_apart = when k == first_apart then lf else []
 
 unfoldable pub label_text : Counts → (bs ls ns : List ℕ) → ℕ → List ℕ
-label_text c bs ls ns k = if apart c.blocks bs ls k then gap_before k (first (apart c.blocks bs ls) c.labels) ++ apart_line ls ns k else []
+label_text c bs ls ns k = when apart c.blocks bs ls k then gap_before k (first (apart c.blocks bs ls) c.labels) ++ apart_line ls ns k else []
 
 -- PIECES: the heading, the words, the labels; nothing past them
 unfoldable pub rest_text : Counts → Buffers → ℕ → List ℕ
-rest_text c b i = if nat_lt i c.words then word_text c b i else if nat_lt (i - c.words) c.labels then label_text c b.blocks b.labels b.names (i - c.words) else []
+rest_text c b i = when nat_lt i c.words then word_text c b i else when nat_lt (i - c.words) c.labels then label_text c b.blocks b.labels b.names (i - c.words) else []
 
 unfoldable pub piece_text : Counts → Buffers → ℕ → List ℕ
 piece_text c b zero = heading c

@@ -7,7 +7,7 @@ use lib.Dec.{eqb}
 use native.Mathlib.Omega.{arith}
 use lib.ListN.{length, get_or, take}
 use borrow.Author.Tests.{eq-eqb, ne_eqb}
-use Rattle.rules.specs.Base.{if◌then◌else◌, is}
+use Rattle.rules.specs.Base.{when◌then◌else◌, is}
 use Rattle.rules.specs.Tokens.{line}
 use Rattle.base_text.specs.Runs.{from}
 use Rattle.base_text.proofs.Rest.{from_start, from_step, from_end, begins-at}
@@ -15,26 +15,26 @@ use Rattle.view_places.specs.Lines.{feed, feeds, moved, since_from, since, line_
 
 module _ (b : ℕ) where
   pub feed-ten : b ≡ 10 → 1 ≡ feed b
-  unfolding feed if◌then◌else◌
+  unfolding feed when◌then◌else◌
   feed-ten h = rw (eq-eqb b 10 h)
 
   pub feed-other : (b ≡ 10 → ⊥) → 0 ≡ feed b
-  unfolding feed if◌then◌else◌
+  unfolding feed when◌then◌else◌
   feed-other h = rw (ne_eqb b 10 h)
 
   pub moved-ten : (k : ℕ) → b ≡ 10 → 0 ≡ moved k b
-  unfolding moved if◌then◌else◌
+  unfolding moved when◌then◌else◌
   moved-ten k h = rw (eq-eqb b 10 h)
 
   pub moved_other : (k : ℕ) → (b ≡ 10 → ⊥) → k + 1 ≡ moved k b
-  unfolding moved if◌then◌else◌
+  unfolding moved when◌then◌else◌
   moved_other k h = rw (ne_eqb b 10 h)
 
   pub feed-small : feed b ≤ 1
-  unfolding feed if◌then◌else◌
+  unfolding feed when◌then◌else◌
   feed-small = go (eqb b 10)
     where
-      go : (t : Bool) → (if t then 1 else 0) ≤ 1
+      go : (t : Bool) → (when t then 1 else 0) ≤ 1
       go true = omega arith
       go false = omega arith
 
@@ -42,10 +42,10 @@ module _ (b : ℕ) where
   feed-one e = omega (arith, e, feed-small)
 
   pub moved-small : (k : ℕ) → moved k b ≤ k + 1
-  unfolding moved if◌then◌else◌
+  unfolding moved when◌then◌else◌
   moved-small k = go (eqb b 10)
     where
-      go : (t : Bool) → (if t then 0 else (k + 1)) ≤ k + 1
+      go : (t : Bool) → (when t then 0 else (k + 1)) ≤ k + 1
       go true = omega arith
       go false = omega arith
 

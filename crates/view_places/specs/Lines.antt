@@ -1,13 +1,13 @@
 -- Where a place stands for a person, by the bytes before it: the line is one more than the line feeds among them, the column one more than
 -- the bytes behind the last of these. Assumes nothing.
 use Rattle.std.specs.Prelude.{ℕ, ◌+◌, ◌-◌, Bool, ◌&&◌, ◌||◌, List, [], ◌∷◌, eqb, length, get_or, take}
-use Rattle.rules.specs.Base.{if◌then◌else◌}
+use Rattle.rules.specs.Base.{when◌then◌else◌}
 use Rattle.rules.specs.Tokens.{line}
 use Rattle.base_text.specs.Runs.{from}
 
 -- one for a line feed
 unfoldable pub feed : ℕ → ℕ
-feed b = if eqb b 10 then 1 else 0
+feed b = when eqb b 10 then 1 else 0
 
 -- the line feeds
 unfoldable pub feeds : List ℕ → ℕ
@@ -16,7 +16,7 @@ feeds (b ∷ bs) = feed b + feeds bs
 
 -- a line feed begins a line, any other byte stands in it
 unfoldable pub moved : ℕ → ℕ → ℕ
-moved k b = if eqb b 10 then 0 else k + 1
+moved k b = when eqb b 10 then 0 else k + 1
 
 -- the bytes behind the last line feed, where k stand behind it so far
 unfoldable pub since_from : ℕ → List ℕ → ℕ

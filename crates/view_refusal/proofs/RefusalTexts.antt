@@ -7,7 +7,7 @@ use native.Mathlib.Omega.{arith}
 use borrow.Author.Tests.{leb-true, eq-eqb, ne_eqb, le-leb, lt-leb}
 use lib.Dec.{leb, ltb}
 use lib.ListN.{length, take}
-use Rattle.rules.specs.Base.{if◌then◌else◌, bytes}
+use Rattle.rules.specs.Base.{when◌then◌else◌, bytes}
 use Rattle.rules.specs.Answers.{refusal_name}
 use Rattle.rules.proofs.Bools.{and_left, and_right}
 use Rattle.view_text.specs.Put.{Put}
@@ -47,19 +47,19 @@ position-put file s place {x = x} {y} {u} {v} q r w z p1 p2 p3 p4 p5 p6 =
 module _ (s : List ℕ) (place : ℕ) where
   module _ {b c : List ℕ} {at e : ℕ} where
     pub end-source : place ≡ length s → Put b c at e (bytes " (the end of the source)") → Put b c at e (end_words s place)
-    unfolding end_words if◌then◌else◌
+    unfolding end_words when◌then◌else◌
     end-source h p = rw (eq-eqb place (length s) h) p
 
     pub end_line :
         {first last : ℕ} → (place ≡ length s → ⊥) → first ≡ line_start s place → last ≡ line_stop s first → last ≤ place
         → Put b c at e (bytes " (the end of the line)") → Put b c at e (end_words s place)
-    unfolding end_words if◌then◌else◌
+    unfolding end_words when◌then◌else◌
     end_line h q r l p = rw (ne_eqb place (length s) h, ← q, ← r, le-leb _ place l) p
 
   pub end_none :
       (b : List ℕ) (at : ℕ) {first last : ℕ} → (place ≡ length s → ⊥) → first ≡ line_start s place → last ≡ line_stop s first → place < last
       → Put b b at at (end_words s place)
-  unfolding end_words if◌then◌else◌
+  unfolding end_words when◌then◌else◌
   end_none b at h q r l = rw (ne_eqb place (length s) h, ← q, ← r, lt-leb _ place l) (put-none b at)
 
 pub heading-put :
@@ -89,26 +89,26 @@ module _ (s : List ℕ) (start end : ℕ) {t : Bool} (q : t ≡ placed s start e
       (file : List ℕ) {b c d f : List ℕ} {at j k e : ℕ}
       → t ≡ true → Put b c at j (position_text file s start) → Put c d j k (bytes "and here\n") → Put d f k e (underlined s start end)
       → Put b f at e (second_text file s start end)
-  unfolding second_text if◌then◌else◌
+  unfolding second_text when◌then◌else◌
   second-put file h p r u = rw (sym q ∙ h) (put-more (put-more p r) u)
 
   pub second_none : (file b : List ℕ) (at : ℕ) → t ≡ false → Put b b at at (second_text file s start end)
-  unfolding second_text if◌then◌else◌
+  unfolding second_text when◌then◌else◌
   second_none file b at h = rw (sym q ∙ h) (put-none b at)
 
   module _ (file : List ℕ) (n start2 end2 : ℕ) {b c : List ℕ} {at e : ℕ} where
     pub refusal-placed : (n ≡ 11 → ⊥) → t ≡ true → Put b c at e (placed_text file s n start end start2 end2) → Put b c at e (refusal_text file s n start end start2 end2)
-    unfolding refusal_text if◌then◌else◌
+    unfolding refusal_text when◌then◌else◌
     refusal-placed g h p = rw (ne_eqb n 11 g, sym q ∙ h) p
 
     pub refusal-not-placed : (n ≡ 11 → ⊥) → t ≡ false → Put b c at e (placeless_text file n) → Put b c at e (refusal_text file s n start end start2 end2)
-    unfolding refusal_text if◌then◌else◌
+    unfolding refusal_text when◌then◌else◌
     refusal-not-placed g h p = rw (ne_eqb n 11 g, sym q ∙ h) p
 
 pub refusal-whole :
     (file s : List ℕ) (n start end start2 end2 : ℕ) {b c : List ℕ} {at e : ℕ}
     → n ≡ 11 → Put b c at e (placeless_text file n) → Put b c at e (refusal_text file s n start end start2 end2)
-unfolding refusal_text if◌then◌else◌
+unfolding refusal_text when◌then◌else◌
 refusal-whole file s n start end start2 end2 h p = rw (eq-eqb n 11 h) p
 
 pub placed-put :

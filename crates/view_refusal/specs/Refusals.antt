@@ -1,6 +1,6 @@
 -- A refusal as a person reads it: a line that an editor finds the place by, and each of its places underlined. Assumes nothing.
 use Rattle.std.specs.Prelude.{ℕ, ◌+◌, Bool, ◌&&◌, List, [], ◌++◌, eqb, leb, ltb, length, take}
-use Rattle.rules.specs.Base.{if◌then◌else◌, bytes}
+use Rattle.rules.specs.Base.{when◌then◌else◌, bytes}
 use Rattle.rules.specs.Capacities.{source_room}
 use Rattle.rules.specs.Answers.{refusal_name}
 use Rattle.rules.specs.Listing.{lf}
@@ -22,8 +22,8 @@ position_text file s place =
 -- words for a place where nothing stands
 unfoldable pub end_words : List ℕ → ℕ → List ℕ
 end_words s place =
-    if eqb place (length s) then bytes " (the end of the source)"
-    else if leb (line_stop s (line_start s place)) place then bytes " (the end of the line)"
+    when eqb place (length s) then bytes " (the end of the source)"
+    else when leb (line_stop s (line_start s place)) place then bytes " (the end of the line)"
     else []
 
 -- the first line of a refusal with a place, and the one line of a refusal without
@@ -40,7 +40,7 @@ placed s start end = ltb 0 end && leb start (length s) && leb (length s) source_
 -- the second place, where there is one
 unfoldable pub second_text : (file s : List ℕ) → (start end : ℕ) → List ℕ
 second_text file s start end =
-    if placed s start end then (position_text file s start ++ bytes "and here\n" ++ underlined s start end) else []
+    when placed s start end then (position_text file s start ++ bytes "and here\n" ++ underlined s start end) else []
 
 -- the first place, with what was due there, and the second
 unfoldable pub placed_text : (file s : List ℕ) → (n start end start2 end2 : ℕ) → List ℕ
@@ -49,6 +49,6 @@ placed_text file s n start end start2 end2 = heading_text file s n start ++ unde
 -- 11 is refused as a whole, and so is what has no place
 unfoldable pub refusal_text : (file s : List ℕ) → (n start end start2 end2 : ℕ) → List ℕ
 refusal_text file s n start end start2 end2 =
-    if eqb n 11 then placeless_text file n
-    else if placed s start end then placed_text file s n start end start2 end2
+    when eqb n 11 then placeless_text file n
+    else when placed s start end then placed_text file s n start end start2 end2
     else placeless_text file n

@@ -6,7 +6,7 @@ use mathlib.Core.List.{List}
 use native.Mathlib.Omega.{arith}
 use borrow.Author.Tests.{ne_eqb}
 use lib.Dec.{eqb}
-use Rattle.rules.specs.Base.{if◌then◌else◌, bytes}
+use Rattle.rules.specs.Base.{when◌then◌else◌, bytes}
 use Rattle.rules.specs.Answers.{answer}
 use Rattle.rules.specs.Stored.{field_at, check}
 use Rattle.laws_stored.specs.Offsets.{part_at}
@@ -25,36 +25,36 @@ module _ {b c : List ℕ} {at e : ℕ} where
   -- A TAG
   module _ (t : ℕ) where
     pub tag-end : t ≡ 0 → Put b c at e (bytes "the end with content, or before all words of a block") → Put b c at e (tag_text t)
-    unfolding tag_text if◌then◌else◌
+    unfolding tag_text when◌then◌else◌
     tag-end h p = rw h p
 
     pub tag-block : t ≡ 1 → Put b c at e (bytes "a block with no words, not above the last, past xFE00, before all words of the last, after a label, or one too many") → Put b c at e (tag_text t)
-    unfolding tag_text if◌then◌else◌
+    unfolding tag_text when◌then◌else◌
     tag-block h p = rw h p
 
     pub tag-set : t ≡ 2 → Put b c at e (bytes "set words where there are none, half a one, above 16,384, more than their block lacks, or behind others that are not full") → Put b c at e (tag_text t)
-    unfolding tag_text if◌then◌else◌
+    unfolding tag_text when◌then◌else◌
     tag-set h p = rw h p
 
     pub tag-unset : t ≡ 3 → Put b c at e (bytes "unset words where there are none, more than their block lacks, or behind others") → Put b c at e (tag_text t)
-    unfolding tag_text if◌then◌else◌
+    unfolding tag_text when◌then◌else◌
     tag-unset h p = rw h p
 
     pub tag-label : t ≡ 4 → Put b c at e (bytes "a label with no good name, not above the last, before all words of a block, after a relocation, or one too many") → Put b c at e (tag_text t)
-    unfolding tag_text if◌then◌else◌
+    unfolding tag_text when◌then◌else◌
     tag-label h p = rw h p
 
     pub tag-external : t ≡ 5 → Put b c at e (bytes "an external with no good name, not above the last, before all words of a block, after a relocation, or one too many") → Put b c at e (tag_text t)
-    unfolding tag_text if◌then◌else◌
+    unfolding tag_text when◌then◌else◌
     tag-external h p = rw h p
 
     pub tag-relocation : t ≡ 6 → Put b c at e (bytes "a relocation at no set word 0, of no external, not above the last, or one too many") → Put b c at e (tag_text t)
-    unfolding tag_text if◌then◌else◌
+    unfolding tag_text when◌then◌else◌
     tag-relocation h p = rw h p
 
     pub tag-other :
         (t ≡ 0 → ⊥) → (t ≡ 1 → ⊥) → (t ≡ 2 → ⊥) → (t ≡ 3 → ⊥) → (t ≡ 4 → ⊥) → (t ≡ 5 → ⊥) → (t ≡ 6 → ⊥) → Put b c at e (bytes "no field has this tag") → Put b c at e (tag_text t)
-    unfolding tag_text if◌then◌else◌
+    unfolding tag_text when◌then◌else◌
     tag-other n0 n1 n2 n3 n4 n5 n6 p = rw (ne_eqb t 0 n0, ne_eqb t 1 n1, ne_eqb t 2 n2, ne_eqb t 3 n3, ne_eqb t 4 n4, ne_eqb t 5 n5, ne_eqb t 6 n6) p
 
   -- A FIELD
@@ -81,11 +81,11 @@ ends-told b i p r q h =
 
 module _ {b c : List ℕ} {at e : ℕ} (s : List ℕ) (i : ℕ) (t : Bool) (h : t ≡ ends_at s i) where
   pub wrong-after : t ≡ true → Put b c at e (bytes "bytes after the end") → Put b c at e (wrong_text s i)
-  unfolding wrong_text if◌then◌else◌
+  unfolding wrong_text when◌then◌else◌
   wrong-after k p = rw (sym h ∙ k) p
 
   pub wrong-here : t ≡ false → (x : Field) → x ≡ told i (field_at s i) → Put b c at e (field_text x) → Put b c at e (wrong_text s i)
-  unfolding wrong_text if◌then◌else◌
+  unfolding wrong_text when◌then◌else◌
   wrong-here k x q p = rw (sym h ∙ k, ← q) p
 
 -- THE LINE

@@ -7,7 +7,7 @@ use native.Mathlib.Omega.{arith}
 use borrow.Author.Tests.{lt-ltb, le-ltb, eq-eqb, ne_eqb}
 use lib.ListN.{length, get_or, take, replicate-append-replicate}
 use Rattle.io.specs.Digits.{hex_digit_ascii, last_digits, IsDigitCount}
-use Rattle.rules.specs.Base.{if◌then◌else◌}
+use Rattle.rules.specs.Base.{when◌then◌else◌}
 use Rattle.rules.specs.Listing.{hex4}
 use Rattle.view_text.specs.Put.{Put}
 use Rattle.view_text.specs.Texts.{spaces, gap, padded, digits_in, decimal, counted, hex_text, hex_text2}
@@ -72,11 +72,11 @@ decimal-put n k p q h = put_same (q ∙ spelled k n n (omega arith) h) p
 
 -- a number with what it counts
 pub count-one : {b c d f : List ℕ} {at k l e : ℕ} (n : ℕ) (w : List ℕ) → n ≡ 1 → Put b c at k (decimal n) → Put c d k l (32 ∷ []) → Put d f l e w → Put b f at e (counted n w)
-unfolding counted if◌then◌else◌
+unfolding counted when◌then◌else◌
 count-one n w h p q r = rw (eq-eqb n 1 h) (put_same (sym (append-nil _)) (put-more (put-more p q) r))
 
 pub count-many : {b c d f g : List ℕ} {at k l m e : ℕ} (n : ℕ) (w : List ℕ) → (n ≡ 1 → ⊥) → Put b c at k (decimal n) → Put c d k l (32 ∷ []) → Put d f l m w → Put f g m e (115 ∷ []) → Put b g at e (counted n w)
-unfolding counted if◌then◌else◌
+unfolding counted when◌then◌else◌
 count-many n w h p q r s = rw (ne_eqb n 1 h) (put-more (put-more (put-more p q) r) s)
 
 -- a text padded up to a column of its line

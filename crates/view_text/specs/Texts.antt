@@ -1,6 +1,6 @@
 -- The texts of numbers and counts, and the spaces up to a column. They are ours, for a terminal. Assumes nothing.
 use Rattle.std.specs.Prelude.{ℕ, zero, suc, ◌+◌, ◌-◌, ◌/◌, ◌%◌, max, true, false, List, [], ◌∷◌, ◌++◌, eqb, ltb, length, drop, replicate}
-use Rattle.rules.specs.Base.{if◌then◌else◌, bytes}
+use Rattle.rules.specs.Base.{when◌then◌else◌, bytes}
 use Rattle.rules.specs.Listing.{hex4}
 
 -- spaces up to a column, one at least
@@ -24,7 +24,7 @@ decimal n = digits_in n n
 
 -- a number with what it counts: 1 word, 2 words
 unfoldable pub counted : ℕ → List ℕ → List ℕ
-counted n what = decimal n ++ bytes " " ++ what ++ (if eqb n 1 then [] else bytes "s")
+counted n what = decimal n ++ bytes " " ++ what ++ (when eqb n 1 then [] else bytes "s")
 
 -- an x and four hexadecimal digits, an x and the last two
 unfoldable pub hex_text : ℕ → List ℕ

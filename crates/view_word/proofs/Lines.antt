@@ -2,7 +2,7 @@
 use Rattle.std.proofs.Common.{◌≡◌, ℕ, ◌+◌, ◌-◌, ◌%◌, ◌<◌, ◌≤◌, List, [], ◌∷◌, ◌++◌, refl, append_assoc, arith, le-ltb, lt-ltb, le-leb}
 use mathlib.Core.Option.{Option, some}
 use borrow.Author.Tests.{lt-leb}
-use Rattle.rules.specs.Base.{if◌then◌else◌, bytes}
+use Rattle.rules.specs.Base.{when◌then◌else◌, bytes}
 use Rattle.rules.specs.Listing.{hex_digit, hex4}
 use Rattle.rules.specs.Words as R
 use Rattle.rules.specs.Words.{line}
@@ -30,26 +30,26 @@ front-put a shown name p1 p2 p3 p4 p5 p6 = pad-put 32 _ (put-more (pad-put 14 _ 
 
 module _ {b : List ℕ} {at : ℕ} (start w : ℕ) where
   pub char_below : w < 32 → Put b b at at (beside (at - start) (char_note w))
-  unfolding char_note beside if◌then◌else◌
+  unfolding char_note beside when◌then◌else◌
   char_below h = put_same (rw (lt-leb 32 w h) refl) (put-none b at)
 
   pub char-above : 127 ≤ w → Put b b at at (beside (at - start) (char_note w))
-  unfolding char_note beside if◌then◌else◌
+  unfolding char_note beside when◌then◌else◌
   char-above h = put_same (rw (le-leb 32 w (omega arith), le-ltb w 127 h) refl) (put-none b at)
 
   pub char-put :
       {c d f g : List ℕ} {j k l e x : ℕ} → 32 ≤ w → w < 127 → x ≡ w → Put b c at j (spaces (gap (at - start) 52)) → Put c d j k (59 ∷ 32 ∷ 39 ∷ []) → Put d f k l (x ∷ []) → Put f g l e (39 ∷ []) →
       Put b g at e (beside (at - start) (char_note w))
-  unfolding char_note beside if◌then◌else◌
+  unfolding char_note beside when◌then◌else◌
   char-put h h2 q p1 p2 p3 p4 = put_same (rw (le-leb 32 w h, lt-ltb w 127 h2, q, append_assoc, append_assoc) refl) (put-more (put-more (put-more p1 p2) p3) p4)
 
 module _ (ls ns : List ℕ) (n : ℕ) {b : List ℕ} {at : ℕ} where
   pub behind-put : (k : ℕ) {c d : List ℕ} {j e : ℕ} {name : List ℕ} → k < n → name ≡ name_text ls ns n k → Put b c at j (32 ∷ []) → Put c d j e name → Put b d at e (label_behind ls ns n k)
-  unfolding label_behind if◌then◌else◌
+  unfolding label_behind when◌then◌else◌
   behind-put k h q p1 p2 = put_same (rw (lt-ltb k n h, q) refl) (put-more p1 p2)
 
   pub behind-none : (k : ℕ) → n ≤ k → Put b b at at (label_behind ls ns n k)
-  unfolding label_behind if◌then◌else◌
+  unfolding label_behind when◌then◌else◌
   behind-none k h = put_same (rw (le-ltb k n h) refl) (put-none b at)
 
   pub reached-put :
@@ -83,6 +83,6 @@ module _ (ls ns : List ℕ) (n : ℕ) {b : List ℕ} {at : ℕ} where
   pub waiting-put :
       (k a outer : ℕ) {c d f g h : List ℕ} {j l m o e : ℕ} {name name2 : List ℕ} → name ≡ name_text ls ns n k → name2 ≡ name_text ls ns n outer → Put b c at j (front a (bytes "x0000") name) →
       Put c d j l (bytes ".fill ") → Put d f l m name2 → Put f g m o (spaces (gap (m - at) 52)) → Put g h o e (bytes "; external, known after a link" ++ (10 ∷ [])) → Put b h at e (waiting_line ls ns n k a outer)
-  unfolding waiting_line noted beside padded hex_text hex4 hex_digit if◌then◌else◌
+  unfolding waiting_line noted beside padded hex_text hex4 hex_digit when◌then◌else◌
   waiting-put k a outer q1 q2 p1 p2 p3 p4 p5 =
       put_same (rw (q1, q2) (simp append_assoc refl)) (put-more (pad-put 52 _ (put-more (put-more p1 p2) p3) p4) p5)

@@ -1,7 +1,7 @@
 -- Rows of labels and relocations read, and the labels at an address. Assumes nothing.
 use Rattle.std.proofs.Common.{◌≡◌, ℕ, ◌+◌, ◌*◌, ◌<◌, ◌≤◌, Bool, true, false, ◌&&◌, eqb, List, [], length, get_or, sym, refl, ap, ◌∙◌, add-one, arith, le-ltb, lt-ltb, eq-eqb, ne_eqb}
 use lib.ListN.{get_or-eq_default}
-use Rattle.rules.specs.Base.{if◌then◌else◌}
+use Rattle.rules.specs.Base.{when◌then◌else◌}
 use Rattle.rules.specs.Buffers.{name_row}
 use Rattle.view_text.specs.Put.{Put}
 use Rattle.view_text.proofs.Putting.{put-none, put_same, put-size, put-more}
@@ -24,19 +24,19 @@ module _ (ls : List ℕ) (k : ℕ) where
   relocates-row a e f = let z : k * 2 + 0 ≡ k * 2 = omega arith in rw (e, f, z) refl
 
   pub later-this : {t : Bool} (a last : ℕ) → t ≡ stands_at ls a k → t ≡ true → k ≡ later ls a k last
-  unfolding later if◌then◌else◌
+  unfolding later when◌then◌else◌
   later-this a last e f = rw (sym e, f) refl
 
   pub later-other : {t : Bool} (a last : ℕ) → t ≡ stands_at ls a k → t ≡ false → last ≡ later ls a k last
-  unfolding later if◌then◌else◌
+  unfolding later when◌then◌else◌
   later-other a last e f = rw (sym e, f) refl
 
   pub name_in_lem : (ns : List ℕ) (n : ℕ) {t : List ℕ} → k < n → t ≡ name_row ls ns k → t ≡ name_text ls ns n k
-  unfolding name_text if◌then◌else◌
+  unfolding name_text when◌then◌else◌
   name_in_lem ns n h e = rw (lt-ltb k n h) e
 
   pub name_out : (ns : List ℕ) (n : ℕ) → n ≤ k → [] ≡ name_text ls ns n k
-  unfolding name_text if◌then◌else◌
+  unfolding name_text when◌then◌else◌
   name_out ns n h = rw (le-ltb k n h) refl
 
 -- the last row, of k
@@ -77,13 +77,13 @@ module _ {ls ns : List ℕ} {a shown n k : ℕ} {b c : List ℕ} {at m : ℕ} wh
 
 module _ (ls ns : List ℕ) (a shown k : ℕ) {t : Bool} {b : List ℕ} {at : ℕ} where
   pub own_line_lem : {c : List ℕ} {e : ℕ} {name : List ℕ} → t ≡ stands_at ls a k → t ≡ true → (k ≡ shown → ⊥) → name ≡ name_row ls ns k → Put b c at e (label_line a name) → Put b c at e (own_line ls ns a shown k)
-  unfolding own_line if◌then◌else◌
+  unfolding own_line when◌then◌else◌
   own_line_lem e f g q p = put_same (rw (sym e, f, ne_eqb k shown g, q) refl) p
 
   pub own-shown : t ≡ stands_at ls a k → t ≡ true → k ≡ shown → Put b b at at (own_line ls ns a shown k)
-  unfolding own_line if◌then◌else◌
+  unfolding own_line when◌then◌else◌
   own-shown e f g = put_same (rw (sym e, f, eq-eqb k shown g) refl) (put-none b at)
 
   pub own-other : t ≡ stands_at ls a k → t ≡ false → Put b b at at (own_line ls ns a shown k)
-  unfolding own_line if◌then◌else◌
+  unfolding own_line when◌then◌else◌
   own-other e f = put_same (rw (sym e, f) refl) (put-none b at)

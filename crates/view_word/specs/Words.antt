@@ -1,7 +1,7 @@
 -- The line of a word of an object: its address, itself, its label, its disassembly, and a note on what that reaches or which character the word is. Assumes nothing.
 use Rattle.std.specs.Prelude.{ℕ, ◌+◌, ◌%◌, ◌&&◌, List, [], ◌∷◌, ◌++◌, length, nat_le, nat_lt}
 use Rattle.std.proofs.Math.Option.{Option, none, some}
-use Rattle.rules.specs.Base.{if◌then◌else◌, bytes}
+use Rattle.rules.specs.Base.{when◌then◌else◌, bytes}
 use Rattle.rules.specs.Words.{line}
 use Rattle.rules.specs.Listing.{lf}
 use Rattle.view_text.specs.Texts.{spaces, gap, padded, hex_text}
@@ -24,14 +24,14 @@ front a shown name = padded instruction_column (padded label_column (padded word
 
 -- the address that an instruction reaches, with its label if it has one
 unfoldable pub label_behind : List ℕ → List ℕ → ℕ → ℕ → List ℕ
-label_behind ls ns n k = if nat_lt k n then bytes " " ++ name_text ls ns n k else []
+label_behind ls ns n k = when nat_lt k n then bytes " " ++ name_text ls ns n k else []
 
 unfoldable pub reached_note : List ℕ → List ℕ → ℕ → ℕ → List ℕ
 reached_note ls ns n target = bytes "; " ++ hex_text target ++ label_behind ls ns n (label_at ls n target)
 
 -- a character from the space up to the last before DEL
 unfoldable pub char_note : ℕ → Option (List ℕ)
-char_note w = if nat_le 32 w && nat_lt w 127 then some (bytes "; '" ++ (w ∷ []) ++ bytes "'") else none
+char_note w = when nat_le 32 w && nat_lt w 127 then some (bytes "; '" ++ (w ∷ []) ++ bytes "'") else none
 
 -- by how far the word's instruction reaches from the next word
 unfoldable pub note_by : List ℕ → List ℕ → ℕ → ℕ → ℕ → Option ℕ → Option (List ℕ)

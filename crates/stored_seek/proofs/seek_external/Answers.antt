@@ -24,10 +24,10 @@ pub bounds-bytes-at : goal.bounds-bytes-at
 bounds-bytes-at c = search (rules, place_in)
 
 pub returns-then-bytes-at-eq-EXTERNAL_LABEL : goal.returns-then-bytes-at-eq-EXTERNAL_LABEL
-returns-then-bytes-at-eq-EXTERNAL_LABEL c = hit-external _ _ _ _ _ _ c.loop-low.invariant c.loop-low-test.true _ refl _ c.label_name.ensures _ c.compare_bytes.ensures c.in-Same.is s end h c.if-bytes-at-eq-EXTERNAL_LABEL.true
+returns-then-bytes-at-eq-EXTERNAL_LABEL c s end h = hit-external _ _ _ _ _ _ c.loop-low.invariant c.loop-low-test.true _ refl _ c.label_name.ensures _ c.compare_bytes.ensures c.in-Same.is s end h c.if-bytes-at-eq-EXTERNAL_LABEL.true
 
 pub returns-in-Same : goal.returns-in-Same
-returns-in-Same c = hit-defined _ _ _ _ _ _ c.loop-low.invariant c.loop-low-test.true _ refl _ c.label_name.ensures _ c.compare_bytes.ensures c.in-Same.is s end h c.if-bytes-at-eq-EXTERNAL_LABEL.false
+returns-in-Same c s end h = hit-defined _ _ _ _ _ _ c.loop-low.invariant c.loop-low-test.true _ refl _ c.label_name.ensures _ c.compare_bytes.ensures c.in-Same.is s end h c.if-bytes-at-eq-EXTERNAL_LABEL.false
 
 pub returns : goal.returns
 returns c = search (rules, narrowed-end)
