@@ -18,10 +18,10 @@ pub lay_labels-requires : goal.lay_labels-requires
 lay_labels-requires c = labels-ready (link-ready _ _ _ _ _ _ _ _ _ _ _ c.is_short-small.ensures c.lent_words-room.ensures c.decide-decision.ensures c.in-Linked.is)
 
 pub slice_bounds-merge_relocations-end : goal.slice_bounds-merge_relocations-end
-slice_bounds-merge_relocations-end c = sym c.decide-decision.auto.1.1.1.1.1.1.1.1.1.1.1.1.1.1.1.1.0
+slice_bounds-merge_relocations-end c = sym c.decide-decision.auto.notes1
 
 pub slice_bounds-merge_relocations-end-in-Linked : goal.slice_bounds-merge_relocations-end-in-Linked
-slice_bounds-merge_relocations-end-in-Linked c = sym c.decide-decision.auto.1.1.1.1.1.1.1.1.1.1.1.1.1.1.1.1.1.0
+slice_bounds-merge_relocations-end-in-Linked c = sym c.decide-decision.auto.notes2
 
 pub merge_relocations-requires : goal.merge_relocations-requires
 merge_relocations-requires c = relocs-ready (link-ready _ _ _ _ _ _ _ _ _ _ _ c.is_short-small.ensures c.lent_words-room.ensures c.decide-decision.ensures c.in-Linked.is)
@@ -30,13 +30,13 @@ pub returns-in-Refused : goal.returns-in-Refused
 returns-in-Refused c = linked-refused _ _ _ _ _ _ _ _ _ _ _ _ _ c.is_short-small.ensures c.lent_words-room.ensures c.decide-decision.ensures c.in-Refused.is _ c.clear.ensures _ c.refusal.ensures
 
 pub shape_of-blocks-in-Linked : goal.shape_of-blocks-in-Linked
-shape_of-blocks-in-Linked c = c.merge_blocks.auto.1.1.1.1.1.1.1.1.0
+shape_of-blocks-in-Linked c = c.merge_blocks.auto.blocks
 
 pub shape_of-words-in-Linked : goal.shape_of-words-in-Linked
-shape_of-words-in-Linked c = c.settle_words-in-Linked.auto.1.1.1.1.1.0 ∙ (c.settle_words.auto.1.1.1.1.1.0 ∙ c.merge_blocks.auto.1.1.1.1.1.1.1.1.1.0)
+shape_of-words-in-Linked c = c.settle_words-in-Linked.auto.words ∙ (c.settle_words.auto.words ∙ c.merge_blocks.auto.words)
 
 pub shape_of-marks-in-Linked : goal.shape_of-marks-in-Linked
-shape_of-marks-in-Linked c = c.merge_blocks.auto.1.1.1.1.1.1.1.1.1.1.0
+shape_of-marks-in-Linked c = c.merge_blocks.auto.marks
 
 pub returns-in-Linked : goal.returns-in-Linked
 returns-in-Linked c =

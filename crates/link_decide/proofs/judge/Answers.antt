@@ -11,7 +11,7 @@ pub overflow_add-result : goal.overflow_add-result
 overflow_add-result c = let low = row_fits c.requires.labels c.match_labels-matched.ensures c.in-Differs.is in search rules
 
 pub tally-c-requires : goal.tally-c-requires
-tally-c-requires c = (still-carried c.requires.relocs1 c.match_labels-matched.auto.1.1.1.1.1.1.0, still-carried c.requires.relocs2 c.match_labels-matched.auto.1.1.1.1.1.1.1.0, c.requires.few)
+tally-c-requires c = (still-carried c.requires.relocs1 c.match_labels-matched.auto.notes1, still-carried c.requires.relocs2 c.match_labels-matched.auto.notes2, c.requires.few)
 
 pub returns-in-Differs : goal.returns-in-Differs
 returns-in-Differs c = judged-differs _ _ _ _ _ _ _ _ _ _ _ _ _ _ _ c.blocks_meet.ensures c.if-blocks_meet.false _ c.match_labels-matched.ensures _ c.in-Differs.is refl

@@ -7,4 +7,4 @@ pub returns-in-Placed : goal.returns-in-Placed
 returns-in-Placed c = search (rules, close-placed)
 
 pub returns-in-Overlaps : goal.returns-in-Overlaps
-returns-in-Overlaps c = close-overlaps _ _ _ _ _ _ _ _ _ _ c.in-Overlaps.is c.wide.ensures.0 c.wide-in-Overlaps.ensures.0 c.wide-in-Overlaps-2.ensures.0 c.wide-in-Overlaps-3.ensures.0
+returns-in-Overlaps c = close-overlaps c.args.t _ _ _ _ _ _ _ _ _ c.in-Overlaps.is c.wide.ensures.0 c.wide-in-Overlaps.ensures.0 c.wide-in-Overlaps-2.ensures.0 c.wide-in-Overlaps-3.ensures.0
