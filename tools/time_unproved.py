@@ -27,20 +27,20 @@ use std::io::Read;
 fn walk(which: u8, src: &[u8], blocks: &mut [u16], words: &mut [u16], marks: &mut [u8], labels: &mut [u32], relocations: &mut [u32], names: &mut [u8]) -> u64 {
     if which == 76 {
         match lex_source::first_refusal(src) {
-            lex_source::Lexed::Clean => { return 0; }
-            lex_source::Lexed::Fault { number, start: _, end: _ } => { return number as u64; }
+            Ok(()) => { return 0; }
+            Err(fault) => { return fault.number as u64; }
         }
     }
     if which == 80 {
         match parse::first_refusal(src) {
-            parse::Statements::Accepted => { return 0; }
-            parse::Statements::Refused { number, start: _, end: _ } => { return number as u64; }
+            Ok(()) => { return 0; }
+            Err(fault) => { return fault.number as u64; }
         }
     }
     if which == 79 {
         match pass1::pass_one(src, labels, relocations) {
-            pass1_state::Pass1Step::Went(o) => { return o.words as u64; }
-            _ => { return 0; }
+            Ok(o) => { return o.words as u64; }
+            Err(_) => { return 0; }
         }
     }
     let answer = asm::assemble(src, blocks, words, marks, labels, relocations, names);

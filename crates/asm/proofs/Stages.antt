@@ -1,4 +1,6 @@
 -- The stages of assembling, one after another, are the rule's. Assumes nothing.
+use Rattle.std.specs.declared.result.Result.{Result}
+use Rattle.std.specs.declared.result.Result.TheVariants.{Ok, Err}
 use mathlib.Core.Path.{◌≡◌, sym, ◌∙◌}
 use mathlib.Core.Bool.{Bool, false}
 use mathlib.Core.List.{List}
@@ -14,8 +16,6 @@ use Rattle.rules.specs.Calls.{of_bytes}
 use Rattle.base_refusals.specs.Refusals.{refused_by}
 use Rattle.base_refusals.specs.declared.Refusal.{Refusal}
 use Rattle.pass1_state.specs.declared.Pass1State as code
-use Rattle.pass1_state.specs.declared.Pass1Step.{Pass1Step}
-use Rattle.pass1_state.specs.declared.Pass1Step.TheVariants.{Went, Refused}
 use Rattle.pass1_fill.specs.Tables.{seen}
 use Rattle.asm_first_half.specs.Tabled.{Begun}
 use Rattle.asm_first_half.specs.Starting.{calling, Started}
@@ -31,12 +31,12 @@ unfolding assemble after_pass2
 with-room room rs qs s o g l = rw (g.readable.clean, g.readable.read, g.first, le-leb o.words room l)
 
 -- THE CALL
-module _ (b : Buffers) (s rs qs : List ℕ) (small : Bool) (room : ℕ) (i : small ≡ short b) (j : room ≡ lent_words b.words b.marks) (z : Pass1Step) (h : Started small room rs qs s z) where
+module _ (b : Buffers) (s rs qs : List ℕ) (small : Bool) (room : ℕ) (i : small ≡ short b) (j : room ≡ lent_words b.words b.marks) (z : Result code.Pass1State Refusal) (h : Started small room rs qs s z) where
   called_is : called b s ≡ calling small room s
   unfolding called of_bytes
   called_is = rw (i, j)
 
-  module _ (o : code.Pass1State) (e : z ≡ Went o) where
+  module _ (o : code.Pass1State) (e : z ≡ Ok o) where
     pub call-begun : Begun rs qs s o
     call-begun = h.went o e
 
@@ -52,7 +52,7 @@ module _ (b : Buffers) (s rs qs : List ℕ) (small : Bool) (room : ℕ) (i : sma
         let q : called b s ≡ after_pass2 g.readable.stmts (seen rs qs s o) = called_is ∙ (calling-long small room s (h.long o e) ∙ with-room room rs qs s o g (h.fits o e)) in
         rw q (l g.readable.stmts g.readable.read)
 
-  pub call-stopped : (f : Refusal) → z ≡ Refused f → (r : Answer) (x : Buffers) → Leaves (refused_by f) b r x → Assembled b s r x
+  pub call-stopped : (f : Refusal) → z ≡ Err f → (r : Answer) (x : Buffers) → Leaves (refused_by f) b r x → Assembled b s r x
   call-stopped f e r x l =
       let q : called b s ≡ refused_by f = called_is ∙ h.stopped f e in
       rw q l

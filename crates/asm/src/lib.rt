@@ -12,8 +12,8 @@ ghost use Rattle.asm_second_half.specs.Made.{after_pass2};
 ghost use Rattle.asm.specs.Call.{Assembled, accepting};
 
 use object_answer::{Answer, refusal};
-use pass1_state::{Pass1State, Pass1Step};
-use pass2_statement::{Pass2State, Pass2Step};
+use pass1_state::Pass1State;
+use pass2_statement::Pass2State;
 
 // An object with these tables and blocks.
 fn accepted(o: Pass1State, t: Pass2State) -> Answer
@@ -61,8 +61,8 @@ fn second_half(
         names,
     );
     match answer {
-        Pass2Step::Went(t) => accepted(o, t),
-        Pass2Step::Refused(r) => refusal(r.number, r.start, r.end, r.start2, r.end2),
+        Ok(t) => accepted(o, t),
+        Err(r) => refusal(r.number, r.start, r.end, r.start2, r.end2),
     }
 }
 
@@ -85,7 +85,7 @@ pub fn assemble(
     let mut rows = [0u32; pass1_symbols::SYMBOL_CELLS];
     let mut pending = [0u32; base_capacities::PASS1_CELLS];
     match asm_first_half::first_half(src, small, room, &mut rows, &mut pending) {
-        Pass1Step::Went(o) => second_half(
+        Ok(o) => second_half(
             src,
             &rows,
             &pending,
@@ -97,7 +97,7 @@ pub fn assemble(
             relocations,
             names,
         ),
-        Pass1Step::Refused(r) => {
+        Err(r) => {
             object_layout::clear(blocks, words, marks, labels, relocations, names);
             refusal(r.number, r.start, r.end, r.start2, r.end2)
         }

@@ -1,4 +1,8 @@
 -- A source up to the end of pass one: the tables that it leaves, or the refusal of assembling. Assumes nothing.
+use Rattle.std.specs.declared.result.Result.{Result}
+use Rattle.std.specs.declared.result.Result.TheVariants.{Ok, Err}
+use Rattle.base_refusals.specs.declared.Fault.{Fault}
+use Rattle.base_refusals.specs.Refusals.{fault}
 use Rattle.std.specs.Prelude.{◌≡◌, List, ℕ}
 use Rattle.rules.specs.Base.{ok}
 use Rattle.rules.specs.Tokens.{Token, lexed}
@@ -6,11 +10,7 @@ use Rattle.rules.specs.Statements.{Stmt, statements}
 use Rattle.rules.specs.Passes.{pass1_start, pass_one, assemble}
 use Rattle.base_refusals.specs.Refusals.{refusal_at, refused_by}
 use Rattle.base_refusals.specs.declared.Refusal.{Refusal}
-use Rattle.parse.specs.declared.Statements.{Statements}
-use Rattle.parse.specs.declared.Statements.TheVariants as check
 use Rattle.pass1_state.specs.declared.Pass1State.{Pass1State}
-use Rattle.pass1_state.specs.declared.Pass1Step.{Pass1Step}
-use Rattle.pass1_state.specs.declared.Pass1Step.TheVariants.{Went, Refused}
 use Rattle.pass1_fill.specs.Tables.{seen, Held}
 
 -- a source that the lexer and the reader of statements accept
@@ -27,11 +27,11 @@ pub record Begun (rs qs s : List ℕ) (o : Pass1State) : Type 0 where
   pub first : pass_one readable.stmts pass1_start ≡ ok (seen rs qs s o)
 
 -- a refusal of the source goes before pass one's answer
-unfoldable pub after_check : Statements → Pass1Step → Pass1Step
-after_check check.Accepted x = x
-after_check (check.Refused n a e) x = Refused (refusal_at n a e)
+unfoldable pub after_check : Result (Unit {0}) Fault → Result Pass1State Refusal → Result Pass1State Refusal
+after_check (Ok u) x = x
+after_check (Err f) x = Err (refusal_at f.number f.start f.end)
 
 -- what is answered of a source, and the tables that are left: a refusal is that of assembling, however many words are lent
-pub record Tabled (rs qs s : List ℕ) (r : Pass1Step) : Type 0 where
-  pub went : (o : Pass1State) → r ≡ Went o → Begun rs qs s o
-  pub stopped : (f : Refusal) → r ≡ Refused f → (room : ℕ) → assemble room s ≡ refused_by f
+pub record Tabled (rs qs s : List ℕ) (r : Result Pass1State Refusal) : Type 0 where
+  pub went : (o : Pass1State) → r ≡ Ok o → Begun rs qs s o
+  pub stopped : (f : Refusal) → r ≡ Err f → (room : ℕ) → assemble room s ≡ refused_by f

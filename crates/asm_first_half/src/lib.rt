@@ -5,23 +5,28 @@ ghost use Rattle.std.specs.Prelude.{◌≡◌, ◌≤◌, length};
 ghost use Rattle.asm_first_half.specs.Tabled.{after_check, Tabled};
 ghost use Rattle.asm_first_half.specs.Starting.{Started};
 
-use parse::Statements;
-use pass1_state::Pass1Step;
+use base_refusals::{Fault, Refusal};
+use pass1_state::Pass1State;
 
 // Pass one's answer, unless the source is refused before it.
-fn after_check(check: Statements, answer: Pass1Step) -> Pass1Step
+fn after_check(
+    check: Result<(), Fault>,
+    answer: Result<Pass1State, Refusal>,
+) -> Result<Pass1State, Refusal>
     ensures { result ≡ after_check check answer }
 {
-    match check {
-        Statements::Accepted => answer,
-        Statements::Refused { number, start, end } => pass1_state::refused(number, start, end),
-    }
+    check?;
+    answer
 }
 
 // The tables of pass one, whatever stood there, or the first refusal in the rule's order: 11, 12, the lexer's, those of statements, pass one's.
 // 11 is tested first, then pass one is tried. Where it goes to the end it has read every statement, and with them every token, so that only 12 can go before;
 // where it stops, at a refusal of its own or of a statement, the whole source is looked through for a refusal that goes before.
-fn source_tables(src: &[u8], labels: &mut [u32], relocations: &mut [u32]) -> Pass1Step
+fn source_tables(
+    src: &[u8],
+    labels: &mut [u32],
+    relocations: &mut [u32],
+) -> Result<Pass1State, Refusal>
     requires { (6144 ≤ length labels.old) × (4096 ≤ length relocations.old) }
     ensures { Tabled labels.new relocations.new src.now result }
 {
@@ -30,8 +35,8 @@ fn source_tables(src: &[u8], labels: &mut [u32], relocations: &mut [u32]) -> Pas
     }
     let answer = pass1::pass_one(src, labels, relocations);
     match answer {
-        Pass1Step::Went(_) => after_check(parse::check_bytes(src), answer),
-        Pass1Step::Refused(_) => after_check(parse::check_source(src), answer),
+        Ok(_) => after_check(parse::check_bytes(src), answer),
+        Err(_) => after_check(parse::check_source(src), answer),
     }
 }
 
@@ -42,21 +47,16 @@ pub fn first_half(
     room: usize,
     rows: &mut [u32],
     pending: &mut [u32],
-) -> Pass1Step
+) -> Result<Pass1State, Refusal>
     requires { (6144 ≤ length rows.old) × (4096 ≤ length pending.old) }
     ensures { Started small room rows.new pending.new src.now result }
 {
     if small {
         return pass1_state::refused(base_refusals::SHORT_BUFFER, 0, 0);
     }
-    let answer = source_tables(src, rows, pending);
-    match answer {
-        Pass1Step::Went(o) => {
-            if room < o.words {
-                return pass1_state::refused(base_refusals::NO_ROOM, 0, 0);
-            }
-            answer
-        }
-        Pass1Step::Refused(_) => answer,
+    let o = source_tables(src, rows, pending)?;
+    if room < o.words {
+        return pass1_state::refused(base_refusals::NO_ROOM, 0, 0);
     }
+    Ok(o)
 }

@@ -1,4 +1,6 @@
 -- What pass two and the layout make of a source's tables. Assumes nothing.
+use Rattle.std.specs.declared.result.Result.{Result}
+use Rattle.std.specs.declared.result.Result.TheVariants.{Ok, Err}
 use mathlib.Core.Path.{◌≡◌, refl, sym, ◌∙◌, ap}
 use mathlib.Core.Bool.{false}
 use mathlib.Core.List.{List}
@@ -16,8 +18,6 @@ use Rattle.base_refusals.specs.Refusals.{refused_by}
 use Rattle.base_refusals.specs.declared.Refusal.{Refusal}
 use Rattle.pass1_state.specs.declared.Pass1State as code
 use Rattle.pass2_statement.specs.declared.Pass2State as code2
-use Rattle.pass2_statement.specs.declared.Pass2Step.{Pass2Step}
-use Rattle.pass2_statement.specs.declared.Pass2Step.TheVariants.{Went, Refused}
 use Rattle.pass1_symbols.specs.Symbols.{symbols}
 use Rattle.pass1_relocations.specs.Pending.{notes}
 use Rattle.pass1_relocations.specs.Resolved.{Resolved}
@@ -156,14 +156,14 @@ module _ (rs qs src : List ℕ) (o : code.Pass1State) (g : Begun rs qs src o) (b
       let r = begun-resolved rs qs src o g in
       (r, record { rows = omega (arith, k.labels, r.names.few); names = omega (arith, k.names, r.names.few) }, omega (arith, k.relocs, r.table.few))
 
-  module _ (bs' ws' ms' : List ℕ) (lb : length bs' ≡ length bs) (lw : length ws' ≡ length ws) (lm : length ms' ≡ length ms) (z : Pass2Step) (w : Wrote rs src o.labels bs' ws' ms' z) where
-    stopping : (f : Refusal) → z ≡ Refused f → (ss : List Stmt) → statements src ≡ ok ss → after_pass2 ss (seen rs qs src o) ≡ refused_by f
+  module _ (bs' ws' ms' : List ℕ) (lb : length bs' ≡ length bs) (lw : length ws' ≡ length ws) (lm : length ms' ≡ length ms) (z : Result code2.Pass2State Refusal) (w : Wrote rs src o.labels bs' ws' ms' z) where
+    stopping : (f : Refusal) → z ≡ Err f → (ss : List Stmt) → statements src ≡ ok ss → after_pass2 ss (seen rs qs src o) ≡ refused_by f
     unfolding after_pass2
     stopping f q ss s =
         let v : refused_by f ≡ pass_two (symbols o.labels rs src) ss pass2_start = rw q at (w.passed.rule ss s) in
         rw (← v)
 
-    pub made-whole : (t : code2.Pass2State) → z ≡ Went t → (ls' rel' ns' : List ℕ)
+    pub made-whole : (t : code2.Pass2State) → z ≡ Ok t → (ls' rel' ns' : List ℕ)
         → LaidLabels (labels_of (symbols o.labels rs src)) ls ns ls' ns'
         → rel' ≡ lay (reloc_cells (labels_of (symbols o.labels rs src)) (notes o.relocations qs src)) (length rel)
         → Made rs qs src o (six bs ws ms ls rel ns) z (six bs' ws' ms' ls' rel' ns')
@@ -173,13 +173,13 @@ module _ (rs qs src : List ℕ) (o : code.Pass1State) (g : Begun rs qs src o) (b
           let v : ok (view_pass2 bs' w.origs ws' ms' u) ≡ pass_two (symbols o.labels rs src) g.readable.stmts pass2_start = rw q at (w.passed.rule g.readable.stmts g.readable.read) in
           making rs qs src o g bs' w.origs ws' ms' u (w.passed.kept u q) i v (six bs ws ms ls rel ns) ls' rel' ns' lb lw lm l k);
       stopped = stopping;
-      cleared = λ f y. (let v : Went t ≡ Refused f = sym e ∙ y in never cc);
+      cleared = λ f y. (let v : Ok t ≡ Err f = sym e ∙ y in never cc);
     }
 
     -- the layout knows buffers by their lengths: what pass two wrote counts for nothing
-    pub made_none : (f : Refusal) → z ≡ Refused f → (x : Buffers) → x ≡ layout nothing (six bs' ws' ms' ls rel ns) → Made rs qs src o (six bs ws ms ls rel ns) z x
+    pub made_none : (f : Refusal) → z ≡ Err f → (x : Buffers) → x ≡ layout nothing (six bs' ws' ms' ls rel ns) → Made rs qs src o (six bs ws ms ls rel ns) z x
     made_none f q x h = record {
-      went = λ u y. (let v : Went u ≡ Refused f = sym y ∙ q in never cc);
+      went = λ u y. (let v : Ok u ≡ Err f = sym y ∙ q in never cc);
       stopped = stopping;
       cleared = λ g y. h ∙ (λ v. six (lay_blocks nothing (lb v)) (lay_words nothing (lw v)) (lay_marks nothing (lm v)) (lay_labels nothing (length ls)) (lay_relocs nothing (length rel)) (lay_names nothing (length ns)));
     }

@@ -1,4 +1,6 @@
 -- Pass two and the object in its layout, of a source whose tables pass one has left. Assumes nothing.
+use Rattle.std.specs.declared.result.Result.{Result}
+use Rattle.std.specs.declared.result.Result.TheVariants.{Ok, Err}
 use Rattle.std.specs.Prelude.{◌≡◌, List, map, ℕ, ◌≤◌, length}
 use Rattle.rules.specs.Base.{Outcome, ok, ◌>>=◌}
 use Rattle.rules.specs.Tables.{map_t}
@@ -10,8 +12,6 @@ use Rattle.base_refusals.specs.Refusals.{refused_by}
 use Rattle.base_refusals.specs.declared.Refusal.{Refusal}
 use Rattle.pass1_state.specs.declared.Pass1State as code
 use Rattle.pass2_statement.specs.declared.Pass2State.{Pass2State}
-use Rattle.pass2_statement.specs.declared.Pass2Step.{Pass2Step}
-use Rattle.pass2_statement.specs.declared.Pass2Step.TheVariants.{Went, Refused}
 use Rattle.pass1_symbols.specs.Symbols.{Growing}
 use Rattle.pass2.specs.Passing.{PassedTwo}
 use Rattle.pass1_fill.specs.Tables.{seen}
@@ -35,7 +35,7 @@ pub record Roomy (rs s : List ℕ) (n : ℕ) (bs ws ms : List ℕ) : Type 0 wher
   pub marks : final.words ≤ length ms
 
 -- pass two, beside places of .orig that it keeps for itself
-pub record Wrote (rs s : List ℕ) (n : ℕ) (bs ws ms : List ℕ) (r : Pass2Step) : Type 0 where
+pub record Wrote (rs s : List ℕ) (n : ℕ) (bs ws ms : List ℕ) (r : Result Pass2State Refusal) : Type 0 where
   pub origs : List ℕ
   pub passed : PassedTwo rs s n bs origs ws ms r
 
@@ -51,7 +51,7 @@ pub record Making (o : code.Pass1State) (t : Pass2State) (w : Outcome Object) (b
   pub buffers : b' ≡ layout whole b
 
 -- what pass two answers of buffers b, and leaves in them
-pub record Made (rs qs s : List ℕ) (o : code.Pass1State) (b : Buffers) (r : Pass2Step) (b' : Buffers) : Type 0 where
-  pub went : (t : Pass2State) → r ≡ Went t → (ss : List Stmt) → statements s ≡ ok ss → Making o t (after_pass2 ss (seen rs qs s o)) b b'
-  pub stopped : (f : Refusal) → r ≡ Refused f → (ss : List Stmt) → statements s ≡ ok ss → after_pass2 ss (seen rs qs s o) ≡ refused_by f
-  pub cleared : (f : Refusal) → r ≡ Refused f → b' ≡ layout nothing b
+pub record Made (rs qs s : List ℕ) (o : code.Pass1State) (b : Buffers) (r : Result Pass2State Refusal) (b' : Buffers) : Type 0 where
+  pub went : (t : Pass2State) → r ≡ Ok t → (ss : List Stmt) → statements s ≡ ok ss → Making o t (after_pass2 ss (seen rs qs s o)) b b'
+  pub stopped : (f : Refusal) → r ≡ Err f → (ss : List Stmt) → statements s ≡ ok ss → after_pass2 ss (seen rs qs s o) ≡ refused_by f
+  pub cleared : (f : Refusal) → r ≡ Err f → b' ≡ layout nothing b

@@ -9,8 +9,9 @@ ghost use Rattle.pass1_relocations.specs.Resolved.{labels_of, Resolved};
 ghost use Rattle.asm_first_half.specs.Tabled.{Begun};
 ghost use Rattle.asm_second_half.specs.Made.{Roomy, Wrote, Made};
 
+use base_refusals::Refusal;
 use pass1_state::Pass1State;
-use pass2_statement::Pass2Step;
+use pass2_statement::Pass2State;
 
 // Labels, names and relocations in the one layout.
 fn lay_tables(
@@ -40,13 +41,13 @@ fn write_blocks(
     blocks: &mut [u16],
     words: &mut [u16],
     marks: &mut [u8],
-) -> Pass2Step
+) -> Result<Pass2State, Refusal>
     requires { Roomy rows.now src.now n blocks.old words.old marks.old }
     ensures { Wrote rows.now src.now n blocks.new words.new marks.new result }
 {
-    base_buffers::zero_u16(blocks);
-    base_buffers::zero_u16(words);
-    base_buffers::zero_u8(marks);
+    base_buffers::clear(blocks, 0);
+    base_buffers::clear(words, 0);
+    base_buffers::clear(marks, 0);
     let mut origs = [0u32; base_capacities::ORIG_CELLS];
     pass2::pass_two(src, rows, n, blocks, &mut origs, words, marks)
 }
@@ -63,18 +64,18 @@ pub fn write_object(
     labels: &mut [u32],
     relocations: &mut [u32],
     names: &mut [u8],
-) -> Pass2Step
+) -> Result<Pass2State, Refusal>
     requires { Begun rows.now pending.now src.now o × (o.words ≤ lent_words words.old marks.old) × (short (six blocks.old words.old marks.old labels.old relocations.old names.old) ≡ false) }
     ensures { Made rows.now pending.now src.now o (six blocks.old words.old marks.old labels.old relocations.old names.old) result (six blocks.new words.new marks.new labels.new relocations.new names.new) }
 {
     let n = o.labels;
     let answer = write_blocks(src, rows, n, blocks, words, marks);
     match answer {
-        Pass2Step::Went(_) => {
+        Ok(_) => {
             lay_tables(src, rows, pending, o, labels, relocations, names);
             answer
         }
-        Pass2Step::Refused(_) => {
+        Err(_) => {
             object_layout::clear(blocks, words, marks, labels, relocations, names);
             answer
         }

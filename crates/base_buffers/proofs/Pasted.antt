@@ -6,8 +6,8 @@ use native.Mathlib.Omega.{arith}
 use native.Mathlib.Numerals.{add-one}
 use lib.ListN.{length, set, get_or, length-set}
 use lib.Seq.{paste, paste-zero, paste-suc, sets-eq}
-use Rattle.rules.specs.Buffers.{zeros, lay}
-use Rattle.rules.proofs.Rows.{length-lay, lay-nil, lay-more}
+use Rattle.rules.specs.Buffers.{lay}
+use Rattle.rules.proofs.Rows.{length-lay, lay-more}
 use Rattle.base_buffers.specs.Rows.{with_row}
 use Rattle.base_buffers.specs.Eights.{with_eight, PutRest}
 
@@ -80,10 +80,6 @@ resting-all {d} {at} {s} {e} {i} {k} r l = record { all = λ d₀ q p. (let z : 
 -- all of it
 pub pasted-rest : {d₀ : List ℕ} {at : ℕ} {s d e : List ℕ} {i : ℕ} → Pasted d₀ at s d i → PutRest d e at s i → e ≡ paste d₀ at s (length s)
 pasted-rest {d₀} p r = r.all d₀ p.size p.here
-
--- pasted at the front of zeros
-pub front : (z r s : List ℕ) (len : ℕ) → z ≡ zeros len → r ≡ paste z 0 s (length s) → length s ≤ len → r ≡ lay s len
-front z r s len e p h = p ∙ (ap (λ (x : List ℕ). paste x 0 s (length s)) (e ∙ sym (lay-nil len)) ∙ lay-more [] s len (omega arith))
 
 -- a row of two cells behind those that are laid
 pub row_laid : (l : List ℕ) (len k a b : ℕ) → length l ≡ k * 2 → k * 2 + 1 < len → with_row (lay l len) k a b ≡ lay (l ++ (a ∷ b ∷ [])) len

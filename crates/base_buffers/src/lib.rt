@@ -1,53 +1,26 @@
-// Lent buffers of bytes, words and table cells: zeroed, pasted into, and filled from the front with zeros behind.
+// Lent buffers of bytes, words and table cells: cleared, pasted into, and filled from the front with a blank behind.
 #![tactic(auto)]
 
-ghost use Rattle.std.specs.Prelude.{◌≡◌, ◌+◌, ◌*◌, ◌≤◌, ◌<◌, length};
+ghost use Rattle.std.specs.Prelude.{◌≡◌, ◌+◌, ◌-◌, ◌*◌, ◌≤◌, ◌<◌, ◌++◌, length, replicate};
 ghost use Rattle.std.proofs.Math.Seq.{paste};
-ghost use Rattle.rules.specs.Buffers.{zeros, lay};
 ghost use Rattle.base_buffers.specs.Rows.{with_row};
 ghost use Rattle.base_buffers.specs.Eights.{with_eight, PutRest};
 
-// Every byte is zero afterwards.
-pub fn zero_u8(b: &mut [u8])
-    ensures { b.new ≡ zeros (length b.old) }
+// Every cell is the blank afterwards.
+pub fn clear<T: Copy>(b: &mut [T], blank: T)
+    ensures { b.new ≡ replicate (length b.old) blank }
 {
-    let mut i = 0;
-    while i < b.len() {
-        b[i] = 0;
-        i += 1;
-    }
-}
-
-pub fn zero_u16(b: &mut [u16])
-    ensures { b.new ≡ zeros (length b.old) }
-{
-    let mut i = 0;
-    while i < b.len() {
-        b[i] = 0;
-        i += 1;
-    }
-}
-
-pub fn zero_u32(b: &mut [u32])
-    ensures { b.new ≡ zeros (length b.old) }
-{
-    let mut i = 0;
-    while i < b.len() {
-        b[i] = 0;
-        i += 1;
+    for cell in b.iter_mut() {
+        *cell = blank;
     }
 }
 
 // All of src, from index `at` of dst.
-pub fn put_u8(dst: &mut [u8], at: usize, src: &[u8])
+pub fn put<T: Copy>(dst: &mut [T], at: usize, src: &[T])
     requires { at + length src.now ≤ length dst.old }
     ensures { dst.new ≡ paste dst.old at src.now (length src.now) }
 {
-    let mut i = 0;
-    while i < src.len() {
-        dst[at + i] = src[i];
-        i += 1;
-    }
+    dst[at..at + src.len()].copy_from_slice(src);
 }
 
 // How many bytes are copied in one step.
@@ -88,19 +61,18 @@ fn put_rest(dst: &mut [u8], at: usize, src: &[u8], i: usize)
     requires { (at + length src.now ≤ length dst.old) × (i ≤ length src.now) }
     ensures { PutRest dst.old dst.new at src.now i }
 {
-    let mut k = i;
-    while k < src.len() {
+    for k in i..src.len() {
         dst[at + k] = src[k];
-        k += 1;
     }
 }
 
-// The same as put_u8, for what is short, as names are.
+// The same as put, for what is short, as names are.
 pub fn put_name(dst: &mut [u8], at: usize, src: &[u8])
     requires { at + length src.now ≤ length dst.old }
     ensures { dst.new ≡ paste dst.old at src.now (length src.now) }
 {
     let mut i = 0;
+    // A while: steps of 8 bytes, as long as so many are left.
     while STEP <= src.len() - i {
         put_eight(dst, at, src, i);
         i += STEP;
@@ -108,67 +80,20 @@ pub fn put_name(dst: &mut [u8], at: usize, src: &[u8])
     put_rest(dst, at, src, i);
 }
 
-pub fn put_u16(dst: &mut [u16], at: usize, src: &[u16])
-    requires { at + length src.now ≤ length dst.old }
-    ensures { dst.new ≡ paste dst.old at src.now (length src.now) }
-{
-    let mut i = 0;
-    while i < src.len() {
-        dst[at + i] = src[i];
-        i += 1;
-    }
-}
-
-pub fn put_u32(dst: &mut [u32], at: usize, src: &[u32])
-    requires { at + length src.now ≤ length dst.old }
-    ensures { dst.new ≡ paste dst.old at src.now (length src.now) }
-{
-    let mut i = 0;
-    while i < src.len() {
-        dst[at + i] = src[i];
-        i += 1;
-    }
-}
-
-// src at the front of dst, and zeros.
-pub fn lay_u8(dst: &mut [u8], src: &[u8])
+// src at the front of dst, and blanks.
+pub fn lay<T: Copy>(dst: &mut [T], src: &[T], blank: T)
     requires { length src.now ≤ length dst.old }
-    ensures { dst.new ≡ lay src.now (length dst.old) }
+    ensures { dst.new ≡ src.now ++ replicate (length dst.old - length src.now) blank }
 {
-    zero_u8(dst);
-    put_u8(dst, 0, src);
-}
-
-pub fn lay_u16(dst: &mut [u16], src: &[u16])
-    requires { length src.now ≤ length dst.old }
-    ensures { dst.new ≡ lay src.now (length dst.old) }
-{
-    zero_u16(dst);
-    put_u16(dst, 0, src);
-}
-
-pub fn lay_u32(dst: &mut [u32], src: &[u32])
-    requires { length src.now ≤ length dst.old }
-    ensures { dst.new ≡ lay src.now (length dst.old) }
-{
-    zero_u32(dst);
-    put_u32(dst, 0, src);
+    clear(dst, blank);
+    put(dst, 0, src);
 }
 
 // The cells of a row, in the tables whose rows are of two.
 const ROW_CELLS: usize = 2;
 
 // Row k of a table of rows of two.
-pub fn row_u16(t: &mut [u16], k: usize, a: u16, b: u16)
-    requires { k * 2 + 1 < length t.old }
-    ensures { t.new ≡ with_row t.old k a b }
-{
-    let i = k * ROW_CELLS;
-    t[i] = a;
-    t[i + 1] = b;
-}
-
-pub fn row_u32(t: &mut [u32], k: usize, a: u32, b: u32)
+pub fn row<T: Copy>(t: &mut [T], k: usize, a: T, b: T)
     requires { k * 2 + 1 < length t.old }
     ensures { t.new ≡ with_row t.old k a b }
 {

@@ -13,7 +13,7 @@ use Rattle.rules.specs.Base.{when◌then◌else◌}
 use Rattle.rules.specs.Tokens.{upper}
 use Rattle.rules.proofs.Bools.{never}
 use Rattle.base_text.specs.Names.{ordered}
-use Rattle.base_text.specs.declared.Order.TheVariants.{Less, Greater}
+use Rattle.std.specs.declared.cmp.Ordering.TheVariants.{Less, Greater}
 use Rattle.base_text.proofs.ByteLaws.{upper-low, upper-small, upper-high}
 use Rattle.base_text.proofs.Rest.{from_start, from_step, from_end}
 use Rattle.base_text.proofs.NameLaws.{map_from}

@@ -5,8 +5,6 @@ ghost use Rattle.std.specs.Prelude.{◌≡◌, map};
 ghost use Rattle.rules.specs.Tokens.{upper};
 ghost use Rattle.base_keys.specs.Keys.{digit_of, onward, key_of};
 
-use base_casts::long8;
-
 // How many values a digit may have, and what the first of ten digits counts.
 const DIGITS: u64 = 64;
 
@@ -57,15 +55,13 @@ pub fn key_of(name: &[u8]) -> u64
 {
     let mut key = 0;
     let mut weight = FIRST;
-    let mut i = 0;
-    while i < name.len() {
-        let digit = digit_of(name[i]);
-        key += long8(digit) * weight;
+    for b in name {
+        let digit = digit_of(*b);
+        key += u64::from(digit) * weight;
         weight = next_weight(digit, weight);
         if weight == 0 {
             return key;
         }
-        i += 1;
     }
     key
 }

@@ -1,7 +1,11 @@
 -- A refusal as the code has it, and in the rules' words. Assumes nothing.
 use Rattle.std.specs.Prelude.{ℕ}
 use Rattle.rules.specs.Base.{Outcome, refuse2, span}
+use Rattle.base_refusals.specs.declared.Fault.{Fault}
 use Rattle.base_refusals.specs.declared.Refusal.{Refusal}
+
+abbrev pub fault : (number start end : ℕ) → Fault
+fault n a e = record { number = n; start = a; end = e }
 
 abbrev pub refusal : (number start end start2 end2 : ℕ) → Refusal
 refusal n a e b f = record { number = n; start = a; end = e; start2 = b; end2 = f }

@@ -1,5 +1,9 @@
 // Document 01's refusals by name, and a refusal with its places. What each means, and where its place is, stands in docs/RULES.md; the rules' own table is `Answers.refusals`.
+// Numbers and no enum: the rules, their theorems and the calls for C speak of numbers.
 #![tactic(auto)]
+
+ghost use Rattle.std.specs.Prelude.{◌≡◌};
+ghost use Rattle.base_refusals.specs.Refusals.{refusal_at};
 
 // Tokens, after LexErr of the Rust.
 pub const DOES_NOT_FIT_U16: u16 = 1;
@@ -75,6 +79,14 @@ pub const BAD_FIELD: u16 = 50;
 
 pub const NO_WRITE_ROOM: u16 = 51;
 
+// A refusal that has one place: its number and the place.
+#[derive(Clone, Copy)]
+pub struct Fault {
+    pub number: u16,
+    pub start: usize,
+    pub end: usize,
+}
+
 // A refusal: its number and its two places, of which one that it does not have is 0 and 0.
 #[derive(Clone, Copy)]
 pub struct Refusal {
@@ -83,4 +95,18 @@ pub struct Refusal {
     pub end: usize,
     pub start2: usize,
     pub end2: usize,
+}
+
+impl From<Fault> for Refusal {
+    ghost from_gives = { λ f r. r ≡ refusal_at f.number f.start f.end };
+
+    fn from(fault: Fault) -> Refusal {
+        Refusal {
+            number: fault.number,
+            start: fault.start,
+            end: fault.end,
+            start2: 0,
+            end2: 0,
+        }
+    }
 }

@@ -1,4 +1,3 @@
 -- Laws that the proofs of `base_rows` cite. Assumes nothing.
-pub mod Shift
 pub mod Read
 pub mod Sorted

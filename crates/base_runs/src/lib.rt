@@ -19,14 +19,11 @@ fn all_plain(s: &[u8]) -> bool
     let mut no_backslash = true;
     let mut no_feed = true;
     let mut no_return = true;
-    let mut i = 0;
-    while i < s.len() {
-        let b = s[i];
-        no_quote = no_quote & (b != b'"');
-        no_backslash = no_backslash & (b != b'\\');
-        no_feed = no_feed & (b != b'\n');
-        no_return = no_return & (b != b'\r');
-        i += 1;
+    for b in s {
+        no_quote &= *b != b'"';
+        no_backslash &= *b != b'\\';
+        no_feed &= *b != b'\n';
+        no_return &= *b != b'\r';
     }
     no_quote & no_backslash & no_feed & no_return
 }
@@ -36,10 +33,8 @@ fn all_ascii(s: &[u8]) -> bool
     ensures { result ≡ every Ascii s.now }
 {
     let mut all = true;
-    let mut i = 0;
-    while i < s.len() {
-        all = all & (s[i] < base_text::PAST_ASCII);
-        i += 1;
+    for b in s {
+        all &= *b < base_text::PAST_ASCII;
     }
     all
 }
@@ -62,6 +57,7 @@ pub fn plain_end(src: &[u8], at: usize) -> usize
         return at;
     }
     let mut i = at;
+    // A while: each turn passes over many bytes, as long as all of them are plain.
     while STEP <= src.len() - i {
         let stop = i + STEP;
         if all_plain(&src[i..stop]) {

@@ -10,19 +10,20 @@ use borrow.Author.Tests.{ltb-true, ltb-false}
 use Rattle.base_text.specs.Runs.{from}
 use Rattle.base_text.specs.Names.{ordered}
 use Rattle.base_text.specs.Keys.{two_at, four_at, key_at}
-use Rattle.base_text.specs.declared.Order.{Order}
-use Rattle.base_text.specs.declared.Order.TheVariants.{Less, Greater}
+use Rattle.std.specs.declared.cmp.Ordering.{Ordering}
+use Rattle.std.specs.declared.cmp.Ordering.TheVariants.{Less, Greater}
 use Rattle.base_text.proofs.Rest.{from_start}
-use Rattle.base_text.proofs.NameLaws.{map_from, map_same, order-less, order-greater, order-go}
+use Rattle.std.specs.Ordering.{nat_cmp}
+use Rattle.base_text.proofs.NameLaws.{cmp_says, map_from, map_same, order-less, order-greater, order-go}
 
 -- x and y tell the order o; where they are the same, the order is that of what comes after
-pub record Ranks (x y : ℕ) (o after : Order) : Type 0 where
+pub record Ranks (x y : ℕ) (o after : Ordering) : Type 0 where
   pub less : x < y → o ≡ Less
   pub more : y < x → o ≡ Greater
   pub same : x ≡ y → o ≡ after
 
 -- ONE LAW FOR ANY WIDTH: a number below n is put behind each
-module _ {n : ℕ} (carry : (p q : ℕ) → p < q → p * n + n ≤ q * n) {p q x y : ℕ} {o m e : Order} (f : Ranks p q o m) (g : Ranks x y m e) (l : x < n) (k : y < n) where
+module _ {n : ℕ} (carry : (p q : ℕ) → p < q → p * n + n ≤ q * n) {p q x y : ℕ} {o m e : Ordering} (f : Ranks p q o m) (g : Ranks x y m e) (l : x < n) (k : y < n) where
   pub joined : Ranks (p * n + x) (q * n + y) o e
   joined = go (ltb p q) refl (ltb q p) refl
     where
@@ -69,7 +70,7 @@ module _ (s : List ℕ) (v : (k : ℕ) → get_or s k 0 < 256) where
   four_low i = omega (arith, two-low i, two-low (i + 2))
 
 -- the order of what is left
-abbrev pub order_at : List ℕ → List ℕ → ℕ → Order
+abbrev pub order_at : List ℕ → List ℕ → ℕ → Ordering
 order_at a b i = ordered (map_from (λ x. x) a i) (map_from (λ x. x) b i)
 
 module _ (a b : List ℕ) (va : (k : ℕ) → get_or a k 0 < 256) (vb : (k : ℕ) → get_or b k 0 < 256) where
@@ -103,14 +104,11 @@ rest : (a b : List ℕ) (i : ℕ) → ordered (from a i) (from b i) ≡ order_at
 rest a b i = sym (simp map_same)
 
 module _ (a b : List ℕ) (at n : ℕ) {x y : ℕ} (f : Ranks x y (order_at a b at) (order_at a b (at + n))) where
-  pub rest-less : x < y → Less ≡ ordered (from a at) (from b at)
-  rest-less u = sym (rest a b at ∙ f.less u)
+  pub rest_met : (x ≡ y → ⊥) → nat_cmp x y ≡ ordered (from a at) (from b at)
+  rest_met n = cmp_says x y (ordered (from a at) (from b at)) (λ (u : x < y). rest a b at ∙ f.less u) (λ (u : y < x). rest a b at ∙ f.more u) n
 
-  pub rest_more : y < x → Greater ≡ ordered (from a at) (from b at)
-  rest_more u = sym (rest a b at ∙ f.more u)
-
-  pub rest-next : y ≤ x → x ≤ y → {o : Order} → o ≡ ordered (from a (at + n)) (from b (at + n)) → o ≡ ordered (from a at) (from b at)
-  rest-next u v e = e ∙ (rest a b (at + n) ∙ sym (rest a b at ∙ f.same (omega arith)))
+  pub rest-next : x ≡ y → {o : Ordering} → o ≡ ordered (from a (at + n)) (from b (at + n)) → o ≡ ordered (from a at) (from b at)
+  rest-next u e = e ∙ (rest a b (at + n) ∙ sym (rest a b at ∙ f.same u))
 
 module _ (a b : List ℕ) (va : (k : ℕ) → get_or a k 0 < 256) (vb : (k : ℕ) → get_or b k 0 < 256) (at shared : ℕ) (la : shared ≤ length a) (lb : shared ≤ length b) {x y : ℕ} where
   pub two-left : 2 ≤ shared - at → x ≡ two_at a at → y ≡ two_at b at → Ranks x y (order_at a b at) (order_at a b (at + 2))
@@ -129,18 +127,18 @@ pub alike-none : (a b : List ℕ) (shared : ℕ) → AlikeTo a b shared 0
 alike-none a b shared = record { within = omega arith; same = simp (from_start, map_same) }
 
 module _ {a b : List ℕ} {shared i : ℕ} (f : AlikeTo a b shared i) where
-  pub alike-rest : (o : Order) → o ≡ ordered (from a i) (from b i) → o ≡ ordered a b
+  pub alike-rest : (o : Ordering) → o ≡ ordered (from a i) (from b i) → o ≡ ordered a b
   alike-rest o e = e ∙ (sym (simp map_same) ∙ f.same)
 
   module _ (va : (k : ℕ) → get_or a k 0 < 256) (vb : (k : ℕ) → get_or b k 0 < 256) (la : shared ≤ length a) (lb : shared ≤ length b) (l : 8 ≤ shared - i) {x y : ℕ} (p : x ≡ key_at a i) (q : y ≡ key_at b i) where
     ranks : Ranks x y (order_at a b i) (order_at a b (i + 8))
     ranks = rw (p, q) (key-ranks a b va vb i (omega arith) (omega arith))
 
+    pub alike-met : (x ≡ y → ⊥) → nat_cmp x y ≡ ordered a b
+    alike-met n = cmp_says x y (ordered a b) (λ (u : x < y). sym f.same ∙ ranks.less u) (λ (u : y < x). sym f.same ∙ ranks.more u) n
+
     pub alike-less : x < y → Less ≡ ordered a b
     alike-less u = sym (ranks.less u) ∙ f.same
 
-    pub alike-more : y < x → Greater ≡ ordered a b
-    alike-more u = sym (ranks.more u) ∙ f.same
-
-    pub alike_next : y ≤ x → x ≤ y → AlikeTo a b shared (i + 8)
-    alike_next u v = record { within = omega arith; same = sym (ranks.same (omega arith)) ∙ f.same }
+    pub alike_next : x ≡ y → AlikeTo a b shared (i + 8)
+    alike_next u = record { within = omega arith; same = sym (ranks.same u) ∙ f.same }

@@ -1,18 +1,20 @@
 -- Two names, one byte on. Assumes nothing.
-use Prim.Native.Nat.{ℕ, suc, ◌+◌, ◌<◌, ◌≤◌}
+use Prim.Native.Nat.{ℕ, suc, ◌+◌, ◌<◌, ◌≤◌, min}
 use mathlib.Core.Path.{◌≡◌, refl, sym, ◌∙◌, ap}
 use mathlib.Core.Bool.{Bool, true, false, ◌&&◌}
 use mathlib.Core.List.{List, [], ◌∷◌, map}
 use lib.Dec.{eqb}
 use native.Mathlib.Omega.{arith}
 use lib.ListN.{length, get_or}
-use borrow.Author.Tests.{lt-ltb, le-ltb, eq-eqb, ne_eqb}
+use lib.Dec.{ltb}
+use borrow.Author.Tests.{lt-ltb, le-ltb, eq-eqb, ne_eqb, ltb-true, ltb-false}
 use Rattle.rules.specs.Base.{when◌then◌else◌, same}
 use Rattle.rules.specs.Tokens.{upper}
 use Rattle.base_text.specs.Runs.{from}
 use Rattle.base_text.specs.Names.{ordered}
-use Rattle.base_text.specs.declared.Order.{Order}
-use Rattle.base_text.specs.declared.Order.TheVariants.{Less, Same, Greater}
+use Rattle.std.specs.Ordering.{nat_cmp}
+use Rattle.std.specs.declared.cmp.Ordering.{Ordering}
+use Rattle.std.specs.declared.cmp.Ordering.TheVariants.{Less, Equal, Greater}
 use Rattle.base_text.proofs.Rest.{from_step, from_end}
 
 -- what is left, each byte by f: in upper case, or as it stands
@@ -50,48 +52,67 @@ module _ (f : ℕ → ℕ) (a b : List ℕ) (i : ℕ) where
   unfolding ordered
   order-long h k = rw (from_step a i h, from_end b i k)
 
-  pub order-end : length a ≤ i → length b ≤ i → ordered (map_from f a i) (map_from f b i) ≡ Same
+  pub order-end : length a ≤ i → length b ≤ i → ordered (map_from f a i) (map_from f b i) ≡ Equal
   unfolding ordered
   order-end h k = rw (from_end a i h, from_end b i k)
 
+-- HOW TWO NUMBERS STAND TO EACH OTHER
+
+pub cmp-less : (x y : ℕ) → x < y → nat_cmp x y ≡ Less
+cmp-less x y l = rw (lt-ltb x y l)
+
+pub cmp-more : (x y : ℕ) → y < x → nat_cmp x y ≡ Greater
+cmp-more x y l = rw (le-ltb x y (omega arith), ne_eqb x y (λ (e : x ≡ y). omega arith))
+
+pub cmp-same : (x y : ℕ) → x ≡ y → nat_cmp x y ≡ Equal
+cmp-same x y e = rw (le-ltb x y (omega arith), eq-eqb x y e)
+
+-- what two numbers that differ say of an order
+pub cmp_says : (x y : ℕ) (o : Ordering) → (x < y → o ≡ Less) → (y < x → o ≡ Greater) → (x ≡ y → ⊥) → nat_cmp x y ≡ o
+cmp_says x y o less more n = go (ltb x y) refl
+  where
+    go : (s : Bool) → ltb x y ≡ s → nat_cmp x y ≡ o
+    go true p = (let l = ltb-true x y p in cmp-less x y l ∙ sym (less l))
+    go false p = (let k = ltb-false x y p in let l : y < x = omega arith in cmp-more x y l ∙ sym (more l))
+
 -- as the loops meet them
-module _ (f : ℕ → ℕ) (a b : List ℕ) {i : ℕ} {x y : ℕ} (p : x ≡ f (get_or a i 0)) (q : y ≡ f (get_or b i 0)) (h : i < length a) where
-  module _ {z : Bool} (n : length a ≡ length b) (g : same (map_from f a i) (map_from f b i) ≡ z) where
+module _ (f : ℕ → ℕ) (a b : List ℕ) {i : ℕ} {x y : ℕ} (p : x ≡ f (get_or a i 0)) (q : y ≡ f (get_or b i 0)) (h : i < length a) (k : i < length b) where
+  module _ {z : Bool} (g : same (map_from f a i) (map_from f b i) ≡ z) where
     pub same-again : x ≡ y → same (map_from f a (i + 1)) (map_from f b (i + 1)) ≡ z
-    same-again e = sym (same-go f a b i h (omega arith) p q e) ∙ g
+    same-again e = sym (same-go f a b i h k p q e) ∙ g
 
     pub same_differs : (x ≡ y → ⊥) → false ≡ z
-    same_differs e = sym (same_stop f a b i h (omega arith) p q e) ∙ g
+    same_differs e = sym (same_stop f a b i h k p q e) ∙ g
 
-  module _ {z : Order} (k : i < length b) (g : ordered (map_from f a i) (map_from f b i) ≡ z) where
-    pub less-met : x < y → Less ≡ z
-    less-met l = sym (order-less f a b i h k p q l) ∙ g
+  module _ {z : Ordering} (g : ordered (map_from f a i) (map_from f b i) ≡ z) where
+    pub order_met : (x ≡ y → ⊥) → nat_cmp x y ≡ z
+    order_met n =
+        cmp_says x y z (λ (l : x < y). sym g ∙ order-less f a b i h k p q l) (λ (l : y < x). sym g ∙ order-greater f a b i h k p q l (omega arith)) n
 
-    pub greater-met : y < x → Greater ≡ z
-    greater-met l = sym (order-greater f a b i h k p q l (omega arith)) ∙ g
-
-    pub order-again : y ≤ x → x ≤ y → ordered (map_from f a (i + 1)) (map_from f b (i + 1)) ≡ z
-    order-again l m = sym (order-go f a b i h k p q m l) ∙ g
-
--- bytes that are the same
-pub order_alike : (f : ℕ → ℕ) (a b : List ℕ) {i : ℕ} {z : Order} → i < length a → i < length b → ordered (map_from f a i) (map_from f b i) ≡ z → get_or a i 0 ≡ get_or b i 0 → ordered (map_from f a (i + 1)) (map_from f b (i + 1)) ≡ z
-order_alike f a b {i} h k g e =
-    let same : f (get_or a i 0) ≡ f (get_or b i 0) = ap f e in
-    order-again f a b refl refl h k g (omega arith) (omega arith)
+    pub order-again : x ≡ y → ordered (map_from f a (i + 1)) (map_from f b (i + 1)) ≡ z
+    order-again e = sym (order-go f a b i h k p q (omega arith) (omega arith)) ∙ g
 
 module _ (f : ℕ → ℕ) (a b : List ℕ) {i : ℕ} where
   pub same-done : {z : Bool} → length a ≡ length b → length a ≤ i → same (map_from f a i) (map_from f b i) ≡ z → true ≡ z
   same-done n h g = sym (same_end f a b i h (omega arith)) ∙ g
 
-  module _ {z : Order} (g : ordered (map_from f a i) (map_from f b i) ≡ z) where
-    pub short-met : length a ≤ i → i < length b → Less ≡ z
-    short-met h k = sym (order-short f a b i h k) ∙ g
+  -- the bytes that both have are the same
+  pub order_done : {z : Ordering} → i ≤ length a → i ≤ length b → min (length a) (length b) ≤ i → ordered (map_from f a i) (map_from f b i) ≡ z
+      → nat_cmp (length a) (length b) ≡ z
+  order_done {z} h k m g = go (ltb (length a) (length b)) refl
+    where
+      last : (s : Bool) → ltb (length b) (length a) ≡ s → length b ≤ length a → nat_cmp (length a) (length b) ≡ z
+      last true p l = (let u = ltb-true (length b) (length a) p in cmp-more (length a) (length b) u ∙ (sym (order-long f a b i (omega arith) (omega arith)) ∙ g))
+      last false p l =
+          let u = ltb-false (length b) (length a) p in
+          let e : length a ≡ length b = omega arith in
+          cmp-same (length a) (length b) e ∙ (sym (order-end f a b i (omega arith) (omega arith)) ∙ g)
 
-    pub long-met : i < length a → length b ≤ i → Greater ≡ z
-    long-met h k = sym (order-long f a b i h k) ∙ g
-
-    pub same_met : length a ≤ i → length b ≤ i → Same ≡ z
-    same_met h k = sym (order-end f a b i h k) ∙ g
+      go : (s : Bool) → ltb (length a) (length b) ≡ s → nat_cmp (length a) (length b) ≡ z
+      go true p = (let l = ltb-true (length a) (length b) p in cmp-less (length a) (length b) l ∙ (sym (order-short f a b i (omega arith) (omega arith)) ∙ g))
+      go false p =
+          let l = ltb-false (length a) (length b) p in
+          last (ltb (length b) (length a)) refl l
 
 -- names of different lengths are not the same
 pub same-lengths : (a b : List ℕ) → (length a ≡ length b → ⊥) → same (map upper a) (map upper b) ≡ false

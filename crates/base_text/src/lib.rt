@@ -8,7 +8,7 @@ ghost use Rattle.base_text.specs.Runs.{plain, in_class, from, run_end};
 ghost use Rattle.base_text.specs.Names.{ordered};
 ghost use Rattle.base_text.specs.Keys.{two_at, four_at, key_at};
 
-use base_casts::long8;
+use std::cmp::Ordering;
 
 // 0 to 9.
 pub fn is_digit(b: u8) -> bool
@@ -127,15 +127,12 @@ pub fn in_class(class: Class, b: u8) -> bool
 pub fn run_end(src: &[u8], at: usize, class: Class) -> usize
     ensures { result ≡ run_end class src.now at }
 {
-    let mut i = at;
-    while i < src.len() {
-        if in_class(class, src[i]) {
-            i += 1;
-        } else {
+    for i in at..src.len() {
+        if !in_class(class, src[i]) {
             return i;
         }
     }
-    i
+    at.max(src.len())
 }
 
 // The byte at i; 0 past the end.
@@ -149,58 +146,31 @@ pub fn byte_at(src: &[u8], i: usize) -> u8
 pub fn same_name(a: &[u8], b: &[u8]) -> bool
     ensures { result ≡ same (map upper a.now) (map upper b.now) }
 {
-    if a.len() == b.len() {
-        let mut i = 0;
-        while i < a.len() {
-            if upper_case(a[i]) == upper_case(b[i]) {
-                i += 1;
-            } else {
-                return false;
-            }
-        }
-        return true;
+    if a.len() != b.len() {
+        return false;
     }
-    false
-}
-
-// How two names stand to each other.
-#[derive(Clone, Copy)]
-pub enum Order {
-    Less,
-    Same,
-    Greater,
+    for i in 0..a.len() {
+        if upper_case(a[i]) != upper_case(b[i]) {
+            return false;
+        }
+    }
+    true
 }
 
 // Two names in upper case, bytewise; a name goes before a longer one that it begins. Bytes that are the same need no upper case.
-pub fn compare_names(a: &[u8], b: &[u8]) -> Order
+pub fn compare_names(a: &[u8], b: &[u8]) -> Ordering
     ensures { result ≡ ordered (map upper a.now) (map upper b.now) }
 {
-    let mut i = 0;
-    while i < a.len() {
-        if b.len() <= i {
-            return Order::Greater;
-        }
-        let p = a[i];
-        let q = b[i];
-        if p == q {
-            i += 1;
-        } else {
-            let x = upper_case(p);
-            let y = upper_case(q);
-            if x < y {
-                return Order::Less;
+    for i in 0..a.len().min(b.len()) {
+        if a[i] != b[i] {
+            let x = upper_case(a[i]);
+            let y = upper_case(b[i]);
+            if x != y {
+                return x.cmp(&y);
             }
-            if y < x {
-                return Order::Greater;
-            }
-            i += 1;
         }
     }
-    if b.len() <= i {
-        Order::Same
-    } else {
-        Order::Less
-    }
+    a.len().cmp(&b.len())
 }
 
 // What two bytes, and what four, count in front of as many.
@@ -224,7 +194,7 @@ fn two_at(s: &[u8], at: usize) -> u64
     ensures { (result ≡ two_at s.now at) × (result < 65536) }
 {
     let next = at + 1;
-    long8(s[at]) * BYTE + long8(s[next])
+    u64::from(s[at]) * BYTE + u64::from(s[next])
 }
 
 // Four bytes. The last two stand in one sum with the others, so that one load reads them all.
@@ -234,7 +204,7 @@ fn four_at(s: &[u8], at: usize) -> u64
 {
     let third = at + 2;
     let fourth = at + 3;
-    two_at(s, at) * TWO_BYTES + long8(s[third]) * BYTE + long8(s[fourth])
+    two_at(s, at) * TWO_BYTES + u64::from(s[third]) * BYTE + u64::from(s[fourth])
 }
 
 // The key of eight bytes: keys are in the order of the bytes.
@@ -245,44 +215,21 @@ pub fn key_at(s: &[u8], at: usize) -> u64
     four_at(s, at) * FOUR_BYTES + four_at(s, at + 4)
 }
 
-// How many bytes both names have.
-fn shared_size(a: &[u8], b: &[u8]) -> usize
-    ensures { (result ≤ length a.now) × (result ≤ length b.now) }
-{
-    if a.len() < b.len() {
-        return a.len();
-    }
-    b.len()
-}
-
 // What is left of two names from a place on, byte by byte.
-fn compare_from(a: &[u8], b: &[u8], at: usize) -> Order
+fn compare_from(a: &[u8], b: &[u8], at: usize) -> Ordering
+    requires { (at ≤ length a.now) × (at ≤ length b.now) }
     ensures { result ≡ ordered (from a.now at) (from b.now at) }
 {
-    let mut i = at;
-    while i < a.len() {
-        if b.len() <= i {
-            return Order::Greater;
+    for i in at..a.len().min(b.len()) {
+        if a[i] != b[i] {
+            return a[i].cmp(&b[i]);
         }
-        let x = a[i];
-        let y = b[i];
-        if x < y {
-            return Order::Less;
-        }
-        if y < x {
-            return Order::Greater;
-        }
-        i += 1;
     }
-    if b.len() <= i {
-        Order::Same
-    } else {
-        Order::Less
-    }
+    a.len().cmp(&b.len())
 }
 
 // What is left of two names from a place on: two bytes at once, if both have them.
-fn compare_quarter(a: &[u8], b: &[u8], shared: usize, at: usize) -> Order
+fn compare_quarter(a: &[u8], b: &[u8], shared: usize, at: usize) -> Ordering
     requires { (at ≤ shared) × (shared ≤ length a.now) × (shared ≤ length b.now) }
     ensures { result ≡ ordered (from a.now at) (from b.now at) }
 {
@@ -291,17 +238,14 @@ fn compare_quarter(a: &[u8], b: &[u8], shared: usize, at: usize) -> Order
     }
     let x = two_at(a, at);
     let y = two_at(b, at);
-    if x < y {
-        return Order::Less;
-    }
-    if y < x {
-        return Order::Greater;
+    if x != y {
+        return x.cmp(&y);
     }
     compare_from(a, b, at + QUARTER_BYTES)
 }
 
 // The same: four bytes at once, if both have them.
-fn compare_half(a: &[u8], b: &[u8], shared: usize, at: usize) -> Order
+fn compare_half(a: &[u8], b: &[u8], shared: usize, at: usize) -> Ordering
     requires { (at ≤ shared) × (shared ≤ length a.now) × (shared ≤ length b.now) }
     ensures { result ≡ ordered (from a.now at) (from b.now at) }
 {
@@ -310,29 +254,24 @@ fn compare_half(a: &[u8], b: &[u8], shared: usize, at: usize) -> Order
     }
     let x = four_at(a, at);
     let y = four_at(b, at);
-    if x < y {
-        return Order::Less;
-    }
-    if y < x {
-        return Order::Greater;
+    if x != y {
+        return x.cmp(&y);
     }
     compare_quarter(a, b, shared, at + HALF_BYTES)
 }
 
 // Two names as they stand, bytewise; a name goes before a longer one that it begins. For tables whose names are in upper case already, as those of objects are. Eight bytes are one key; of what is left four and two are looked at at once.
-pub fn compare_bytes(a: &[u8], b: &[u8]) -> Order
+pub fn compare_bytes(a: &[u8], b: &[u8]) -> Ordering
     ensures { result ≡ ordered a.now b.now }
 {
-    let shared = shared_size(a, b);
+    let shared = a.len().min(b.len());
     let mut i = 0;
+    // A while: steps of 8 bytes, as long as both names have so many.
     while KEY_BYTES <= shared - i {
         let x = key_at(a, i);
         let y = key_at(b, i);
-        if x < y {
-            return Order::Less;
-        }
-        if y < x {
-            return Order::Greater;
+        if x != y {
+            return x.cmp(&y);
         }
         i += KEY_BYTES;
     }

@@ -1,4 +1,6 @@
 -- A word and the instruction that encodes to exactly it, by the four high bits. Assumes nothing.
+use Rattle.std.specs.declared.option.Option.TheVariants.{Some, None}
+use Rattle.std.specs.declared.option.Option as O
 use Prim.Native.Nat.{ℕ, zero, suc, ◌+◌, ◌-◌, ◌*◌, ◌/◌, ◌%◌, ◌^◌, ◌≤◌, ◌<◌}
 use native.Mathlib.Nat.{mod-lt, div-div-eq-div-mul, add_left_cancel, zero-add, mod-eq_of_lt}
 use native.Mathlib.Omega.{arith}
@@ -19,10 +21,6 @@ use Rattle.isa.specs.Instructions.{operand_of, meant}
 use Rattle.isa.specs.Disassembly.{extended, last_of, meant_if}
 use Rattle.isa.specs.declared.ImmOrReg.{ImmOrReg}
 use Rattle.isa.specs.declared.ImmOrReg.TheVariants.{Imm, Reg}
-use Rattle.isa.specs.declared.disassembly.Disassembled.{Disassembled}
-use Rattle.isa.specs.declared.disassembly.Disassembled.TheVariants as DV
-use Rattle.isa.specs.declared.disassembly.Last.{Last}
-use Rattle.isa.specs.declared.disassembly.Last.TheVariants.{Operand, Malformed}
 use Rattle.isa.specs.declared.AsmInstr.{AsmInstr}
 use Rattle.isa.specs.declared.AsmInstr.TheVariants.{ADD, AND, LD, LDI, LDR, LEA, ST, STI, STR, BR, JMP, JSR, JSRR, NOT, RET, RTI, TRAP, GETC, PUTC, PUTS, IN, PUTSP, HALT}
 
@@ -171,51 +169,51 @@ module _
     reg-hides w p b z =
         sym (refused k _ w _ (omega arith) p (case-of w _ (last-reg w b)) (row (at9 w) (at6 w) (register (w % 8)) ∙ reg-sum k w) (λ e. z (no_middle w b (sum_back k w _ p e))))
 
-    operand-shows : (w : ℕ) (o : ImmOrReg) → w / 4096 ≡ k → last_of w ≡ Operand o → some (meant (A (at9 w) (at6 w) o)) ≡ disassemble w
+    operand-shows : (w : ℕ) (o : ImmOrReg) → w / 4096 ≡ k → last_of w ≡ Some o → some (meant (A (at9 w) (at6 w) o)) ≡ disassemble w
     unfolding when◌then◌else◌
     operand-shows w o p q =
         by-test (eqb (w / 32 % 2) 1)
         (λ t.
-        let h : Operand (Imm (low 5 w)) ≡ Operand o = rw t at q in
+        let h : Some (Imm (low 5 w)) ≡ Some o = rw t at q in
         let e : Imm (low 5 w) ≡ o = cc in
         ap (λ (x : ImmOrReg). some (meant (A (at9 w) (at6 w) x))) (sym e) ∙ imm-shows w p (eqb-true _ _ t))
         (λ t.
         by-test (eqb (w / 8 % 4) 0)
         (λ u.
-        let h : Operand (Reg (w % 8)) ≡ Operand o = rw (t, u) at q in
+        let h : Some (Reg (w % 8)) ≡ Some o = rw (t, u) at q in
         let e : Reg (w % 8) ≡ o = cc in
         ap (λ (x : ImmOrReg). some (meant (A (at9 w) (at6 w) x))) (sym e) ∙ reg-shows w p (even w (eqb-false _ _ t)) (eqb-true _ _ u))
         (λ u.
-        let h : Malformed ≡ Operand o = rw (t, u) at q in
+        let h : None ≡ Some o = rw (t, u) at q in
         never cc))
 
-    operand-hides : (w : ℕ) → w / 4096 ≡ k → last_of w ≡ Malformed → none ≡ disassemble w
+    operand-hides : (w : ℕ) → w / 4096 ≡ k → last_of w ≡ None → none ≡ disassemble w
     unfolding when◌then◌else◌
     operand-hides w p q =
         by-test (eqb (w / 32 % 2) 1)
         (λ t.
-        let h : Operand (Imm (low 5 w)) ≡ Malformed = rw t at q in
+        let h : Some (Imm (low 5 w)) ≡ None = rw t at q in
         never cc)
         (λ t.
         by-test (eqb (w / 8 % 4) 0)
         (λ u.
-        let h : Operand (Reg (w % 8)) ≡ Malformed = rw (t, u) at q in
+        let h : Some (Reg (w % 8)) ≡ None = rw (t, u) at q in
         never cc)
         (λ u. reg-hides w p (even w (eqb-false _ _ t)) (eqb-false _ _ u)))
 
-pub add-shows : (w : ℕ) (x : Last) (o : ImmOrReg) → w / 4096 ≡ 1 → x ≡ last_of w → x ≡ Operand o → some (meant (ADD (at9 w) (at6 w) o)) ≡ disassemble w
+pub add-shows : (w : ℕ) (x : O.Option ImmOrReg) (o : ImmOrReg) → w / 4096 ≡ 1 → x ≡ last_of w → x ≡ Some o → some (meant (ADD (at9 w) (at6 w) o)) ≡ disassemble w
 unfolding meant cases word made find instructions joined when◌then◌else◌
 add-shows w x o p q r = operand-shows 1 ADD (omega arith) R.ADD (λ d s o. refl) (λ w. refl) (λ d s o. refl) w o p (sym q ∙ r)
 
-pub and-shows : (w : ℕ) (x : Last) (o : ImmOrReg) → w / 4096 ≡ 5 → x ≡ last_of w → x ≡ Operand o → some (meant (AND (at9 w) (at6 w) o)) ≡ disassemble w
+pub and-shows : (w : ℕ) (x : O.Option ImmOrReg) (o : ImmOrReg) → w / 4096 ≡ 5 → x ≡ last_of w → x ≡ Some o → some (meant (AND (at9 w) (at6 w) o)) ≡ disassemble w
 unfolding meant cases word made find instructions joined when◌then◌else◌
 and-shows w x o p q r = operand-shows 5 AND (omega arith) R.AND (λ d s o. refl) (λ w. refl) (λ d s o. refl) w o p (sym q ∙ r)
 
-pub add-hides : (w : ℕ) (x : Last) → w / 4096 ≡ 1 → x ≡ last_of w → x ≡ Malformed → none ≡ disassemble w
+pub add-hides : (w : ℕ) (x : O.Option ImmOrReg) → w / 4096 ≡ 1 → x ≡ last_of w → x ≡ None → none ≡ disassemble w
 unfolding meant cases word made find instructions joined when◌then◌else◌
 add-hides w x p q r = operand-hides 1 ADD (omega arith) R.ADD (λ d s o. refl) (λ w. refl) (λ d s o. refl) w p (sym q ∙ r)
 
-pub and-hides : (w : ℕ) (x : Last) → w / 4096 ≡ 5 → x ≡ last_of w → x ≡ Malformed → none ≡ disassemble w
+pub and-hides : (w : ℕ) (x : O.Option ImmOrReg) → w / 4096 ≡ 5 → x ≡ last_of w → x ≡ None → none ≡ disassemble w
 unfolding meant cases word made find instructions joined when◌then◌else◌
 and-hides w x p q r = operand-hides 5 AND (omega arith) R.AND (λ d s o. refl) (λ w. refl) (λ d s o. refl) w p (sym q ∙ r)
 
@@ -424,15 +422,15 @@ unfolding when◌then◌else◌
 half_high h b p m l = rw (le-ltb b h l) (omega arith)
 
 -- the last operand of ADD and AND
-pub last-value : (w r : ℕ) → w / 32 % 2 ≡ 1 → r ≡ low 5 w → Operand (Imm r) ≡ last_of w
+pub last-value : (w r : ℕ) → w / 32 % 2 ≡ 1 → r ≡ low 5 w → Some (Imm r) ≡ last_of w
 unfolding when◌then◌else◌
 last-value w r b q = rw (q, eq-eqb (w / 32 % 2) 1 b)
 
-pub last-register : (w : ℕ) → (w / 32 % 2 ≡ 1 → ⊥) → w / 8 % 4 ≡ 0 → Operand (Reg (w % 8)) ≡ last_of w
+pub last-register : (w : ℕ) → (w / 32 % 2 ≡ 1 → ⊥) → w / 8 % 4 ≡ 0 → Some (Reg (w % 8)) ≡ last_of w
 unfolding when◌then◌else◌
 last-register w b z = rw (ne_eqb (w / 32 % 2) 1 b, eq-eqb (w / 8 % 4) 0 z)
 
-pub last-malformed : (w : ℕ) → (w / 32 % 2 ≡ 1 → ⊥) → (w / 8 % 4 ≡ 0 → ⊥) → Malformed ≡ last_of w
+pub last-malformed : (w : ℕ) → (w / 32 % 2 ≡ 1 → ⊥) → (w / 8 % 4 ≡ 0 → ⊥) → None ≡ last_of w
 unfolding when◌then◌else◌
 last-malformed w b z = rw (ne_eqb (w / 32 % 2) 1 b, ne_eqb (w / 8 % 4) 0 z)
 
@@ -466,14 +464,14 @@ unfolding meant cases word made find instructions joined when◌then◌else◌
 str-shows = six-shows 7 STR (omega arith) (λ w. refl) (λ d b o. refl)
 
 -- a line: the instruction, or a fill
-pub line-instr : (w : ℕ) (x : Disassembled) (i : AsmInstr) → meant_if x ≡ disassemble w → x ≡ DV.Instr i → R.instruction (meant i) ≡ line w
+pub line-instr : (w : ℕ) (x : O.Option AsmInstr) (i : AsmInstr) → meant_if x ≡ disassemble w → x ≡ Some i → R.instruction (meant i) ≡ line w
 unfolding line
 line-instr w x i p q = of_some (disassemble w) (sym p ∙ ap meant_if q) where
   of_some : (d : Option Instr) → d ≡ some (meant i) → R.instruction (meant i) ≡ elim d [ none ↦ R.filled w | some j ↦ R.instruction j ]
   of_some none e = never cc
   of_some (some j) e = let h : j ≡ meant i = cc in ap R.instruction (sym h)
 
-pub line-fill : (w : ℕ) (x : Disassembled) → meant_if x ≡ disassemble w → x ≡ DV.Nothing → R.filled w ≡ line w
+pub line-fill : (w : ℕ) (x : O.Option AsmInstr) → meant_if x ≡ disassemble w → x ≡ None → R.filled w ≡ line w
 unfolding line
 line-fill w x p q = of_none (disassemble w) (sym p ∙ ap meant_if q) where
   of_none : (d : Option Instr) → d ≡ none → R.filled w ≡ elim d [ none ↦ R.filled w | some j ↦ R.instruction j ]

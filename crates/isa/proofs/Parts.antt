@@ -13,8 +13,8 @@ use Rattle.rules.proofs.Fields.{by-test, fits-above, fits_not}
 use Rattle.rules.proofs.Bools.{never}
 use Rattle.isa_fields.specs.Fields.{encoded, inside, size}
 use Rattle.isa.specs.Instructions.{operand_of, meant}
-use Rattle.isa_fields.specs.declared.Encoded.{Encoded}
-use Rattle.isa_fields.specs.declared.Encoded.TheVariants.{Bits, Outside}
+use Rattle.std.specs.declared.option.Option as O
+use Rattle.std.specs.declared.option.Option.TheVariants.{Some, None}
 use Rattle.isa.specs.declared.AsmInstr.{AsmInstr}
 use Rattle.isa.specs.declared.AsmInstr.TheVariants.{BR, NOT, TRAP}
 use Rattle.isa.specs.declared.ImmOrReg.{ImmOrReg}
@@ -25,33 +25,33 @@ pub below : (r : Range) (d : ℕ) → 0 < r.modulus → size (encoded (bits (num
 unfolding bits field when◌then◌else◌
 below r d p = by-test (fits r d) (λ t. rw t (mod-lt d p)) (λ t. rw t p)
 
-pub imm-small : (e : Encoded) (d b : ℕ) → e ≡ encoded (bits (num (range 16 15 32)) (value d)) → e ≡ Bits b → b < 32
-imm-small e d b p q = let h : size (Bits b) ≡ size (encoded (bits (num (range 16 15 32)) (value d))) = ap size (sym q ∙ p) in omega (arith, below (range 16 15 32) d (omega arith))
+pub imm-small : (e : O.Option ℕ) (d b : ℕ) → e ≡ encoded (bits (num (range 16 15 32)) (value d)) → e ≡ Some b → b < 32
+imm-small e d b p q = let h : size (Some b) ≡ size (encoded (bits (num (range 16 15 32)) (value d))) = ap size (sym q ∙ p) in omega (arith, below (range 16 15 32) d (omega arith))
 
 -- the last operand of ADD and AND
 imm-bits : (d : ℕ) (x : Option ℕ) → bits (num (range 16 15 32)) (value d) ≡ x → bits reg_or_imm (value d) ≡ some 32 ⊕ x
 unfolding bits when◌then◌else◌ ◌⊕◌
 imm-bits d x e = by-test (fits (signed 5) d) (λ t. rw (← e, t)) (λ t. rw (← e, t))
 
-pub imm-in : (o : ImmOrReg) (e : Encoded) (d b : ℕ) → o ≡ Imm d → e ≡ encoded (bits (num (range 16 15 32)) (value d)) → e ≡ Bits b → Bits (32 + b) ≡ encoded (bits reg_or_imm (operand_of o))
+pub imm-in : (o : ImmOrReg) (e : O.Option ℕ) (d b : ℕ) → o ≡ Imm d → e ≡ encoded (bits (num (range 16 15 32)) (value d)) → e ≡ Some b → Some (32 + b) ≡ encoded (bits reg_or_imm (operand_of o))
 unfolding ◌⊕◌
 imm-in o e d b p q r = within (bits (num (range 16 15 32)) (value d)) refl (sym r ∙ q) ∙ ap (λ (x : ImmOrReg). encoded (bits reg_or_imm (operand_of x))) (sym p) where
-  within : (x : Option ℕ) → bits (num (range 16 15 32)) (value d) ≡ x → Bits b ≡ encoded x → Bits (32 + b) ≡ encoded (bits reg_or_imm (value d))
+  within : (x : Option ℕ) → bits (num (range 16 15 32)) (value d) ≡ x → Some b ≡ encoded x → Some (32 + b) ≡ encoded (bits reg_or_imm (value d))
   within none y z = never cc
   within (some n) y z = let h : b ≡ n = cc in rw (imm-bits d (some n) y, h)
 
-pub imm-out : (o : ImmOrReg) (e : Encoded) (d : ℕ) → o ≡ Imm d → e ≡ encoded (bits (num (range 16 15 32)) (value d)) → e ≡ Outside → Outside ≡ encoded (bits reg_or_imm (operand_of o))
+pub imm-out : (o : ImmOrReg) (e : O.Option ℕ) (d : ℕ) → o ≡ Imm d → e ≡ encoded (bits (num (range 16 15 32)) (value d)) → e ≡ None → None ≡ encoded (bits reg_or_imm (operand_of o))
 unfolding ◌⊕◌
 imm-out o e d p q r = within (bits (num (range 16 15 32)) (value d)) refl (sym r ∙ q) ∙ ap (λ (x : ImmOrReg). encoded (bits reg_or_imm (operand_of x))) (sym p) where
-  within : (x : Option ℕ) → bits (num (range 16 15 32)) (value d) ≡ x → Outside ≡ encoded x → Outside ≡ encoded (bits reg_or_imm (value d))
+  within : (x : Option ℕ) → bits (num (range 16 15 32)) (value d) ≡ x → None ≡ encoded x → None ≡ encoded (bits reg_or_imm (value d))
   within none y z = rw (imm-bits d none y)
   within (some n) y z = never cc
 
-pub reg_in : (o : ImmOrReg) (r : ℕ) → o ≡ Reg r → r ≤ 7 → Bits r ≡ encoded (bits reg_or_imm (operand_of o))
+pub reg_in : (o : ImmOrReg) (r : ℕ) → o ≡ Reg r → r ≤ 7 → Some r ≡ encoded (bits reg_or_imm (operand_of o))
 unfolding bits when◌then◌else◌
 reg_in o r p l = rw (p, le-leb r 7 l)
 
-pub reg-out : (o : ImmOrReg) (r : ℕ) → o ≡ Reg r → 7 < r → Outside ≡ encoded (bits reg_or_imm (operand_of o))
+pub reg-out : (o : ImmOrReg) (r : ℕ) → o ≡ Reg r → 7 < r → None ≡ encoded (bits reg_or_imm (operand_of o))
 unfolding bits when◌then◌else◌
 reg-out o r p l = rw (p, lt-leb r 7 l)
 
@@ -73,28 +73,28 @@ none_left : (x : Option ℕ) → none ⊕ x ≡ none
 unfolding ◌⊕◌
 none_left x = refl
 
-module _ (w f s : ℕ) (low : Encoded) where
-  pub first_out : 7 < f → Outside ≡ encoded (some w ⊕ bits DR (register f) ⊕ bits SR (register s) ⊕ inside low)
+module _ (w f s : ℕ) (low : O.Option ℕ) where
+  pub first_out : 7 < f → None ≡ encoded (some w ⊕ bits DR (register f) ⊕ bits SR (register s) ⊕ inside low)
   first_out l = rw (reg-none 512 f l, none_right (some w), none_left (bits SR (register s)), none_left (inside low))
 
-  pub second-out : 7 < s → Outside ≡ encoded (some w ⊕ bits DR (register f) ⊕ bits SR (register s) ⊕ inside low)
+  pub second-out : 7 < s → None ≡ encoded (some w ⊕ bits DR (register f) ⊕ bits SR (register s) ⊕ inside low)
   second-out l = rw (reg-none 64 s l, none_right (some w ⊕ bits DR (register f)), none_left (inside low))
 
-  pub low-out : low ≡ Outside → Outside ≡ encoded (some w ⊕ bits DR (register f) ⊕ bits SR (register s) ⊕ inside low)
+  pub low-out : low ≡ None → None ≡ encoded (some w ⊕ bits DR (register f) ⊕ bits SR (register s) ⊕ inside low)
   low-out e = rw (e, none_right (some w ⊕ bits DR (register f) ⊕ bits SR (register s)))
 
-  pub all_in : (b : ℕ) → f ≤ 7 → s ≤ 7 → low ≡ Bits b → Bits (w + f * 512 + s * 64 + b) ≡ encoded (some w ⊕ bits DR (register f) ⊕ bits SR (register s) ⊕ inside low)
+  pub all_in : (b : ℕ) → f ≤ 7 → s ≤ 7 → low ≡ Some b → Some (w + f * 512 + s * 64 + b) ≡ encoded (some w ⊕ bits DR (register f) ⊕ bits SR (register s) ⊕ inside low)
   unfolding ◌⊕◌
   all_in b l m e = rw (e, reg-bits 512 f l, reg-bits 64 s m)
 
-pub no_wrap : (w b : ℕ) (low : Encoded) → w + size low ≤ 61503 → low ≡ Bits b → w + b ≤ 61503
+pub no_wrap : (w b : ℕ) (low : O.Option ℕ) → w + size low ≤ 61503 → low ≡ Some b → w + b ≤ 61503
 no_wrap w b low h e = omega (arith, ap size e)
 
 -- a field leaves room for the two registers above it
-pub small : (l h m : ℕ) (e : Encoded) (d : ℕ) → 0 < m → e ≡ encoded (bits (num (range l h m)) (value d)) → size e < m
+pub small : (l h m : ℕ) (e : O.Option ℕ) (d : ℕ) → 0 < m → e ≡ encoded (bits (num (range l h m)) (value d)) → size e < m
 small l h m e d p q = omega (arith, ap size q, below (range l h m) d p)
 
-of-last : (e : Encoded) (o : ImmOrReg) → e ≡ encoded (bits reg_or_imm (operand_of o)) → size e < 64
+of-last : (e : O.Option ℕ) (o : ImmOrReg) → e ≡ encoded (bits reg_or_imm (operand_of o)) → size e < 64
 unfolding bits field when◌then◌else◌
 of-last e (Imm d) q =
     by-test (fits (signed 5) d)
@@ -105,15 +105,15 @@ of-last e (Reg r) q =
     (λ t. let h : size e ≡ r = ap size q ∙ rw t in omega (arith, leb-true r 7 t))
     (λ t. let h : size e ≡ 0 = ap size q ∙ rw t in omega arith)
 
-pub small-last : (K : ℕ → ℕ → ImmOrReg → AsmInstr) (i : AsmInstr) (e : Encoded) (d s : ℕ) (o : ImmOrReg) → i ≡ K d s o → e ≡ encoded (bits reg_or_imm (operand_of o)) → size e < 64
+pub small-last : (K : ℕ → ℕ → ImmOrReg → AsmInstr) (i : AsmInstr) (e : O.Option ℕ) (d s : ℕ) (o : ImmOrReg) → i ≡ K d s o → e ≡ encoded (bits reg_or_imm (operand_of o)) → size e < 64
 small-last K i e d s o p q = of-last e o q
 
 -- a trap
-pub trap-in : (v : ℕ) → v ≤ 255 → Bits (0xf000 + v) ≡ encoded (some 0xf000 ⊕ bits (num (unsigned 8)) (value v))
+pub trap-in : (v : ℕ) → v ≤ 255 → Some (0xf000 + v) ≡ encoded (some 0xf000 ⊕ bits (num (unsigned 8)) (value v))
 unfolding bits field when◌then◌else◌ ◌⊕◌
 trap-in v l = rw (fits-above (unsigned 8) v l, mod-eq_of_lt {n = v} {m = 256} (omega arith))
 
-pub trap-out : (v : ℕ) → v < 65536 → 255 < v → Outside ≡ encoded (some 0xf000 ⊕ bits (num (unsigned 8)) (value v))
+pub trap-out : (v : ℕ) → v < 65536 → 255 < v → None ≡ encoded (some 0xf000 ⊕ bits (num (unsigned 8)) (value v))
 unfolding bits when◌then◌else◌ ◌⊕◌
 trap-out v f l = rw (fits_not (unsigned 8) v l f)
 
@@ -166,7 +166,7 @@ inside-encoded : (x : Option ℕ) → inside (encoded x) ≡ x
 inside-encoded none = refl
 inside-encoded (some b) = refl
 
-arm : (i j : AsmInstr) (r low : Encoded) (w f s : ℕ) (x : Option ℕ) → i ≡ j → low ≡ encoded x → r ≡ encoded (some w ⊕ bits DR (register f) ⊕ bits SR (register s) ⊕ inside low) → (some w ⊕ bits DR (register f) ⊕ bits SR (register s) ⊕ x) ≡ word (meant j) → r ≡ encoded (word (meant i))
+arm : (i j : AsmInstr) (r low : O.Option ℕ) (w f s : ℕ) (x : Option ℕ) → i ≡ j → low ≡ encoded x → r ≡ encoded (some w ⊕ bits DR (register f) ⊕ bits SR (register s) ⊕ inside low) → (some w ⊕ bits DR (register f) ⊕ bits SR (register s) ⊕ x) ≡ word (meant j) → r ≡ encoded (word (meant i))
 arm i j r low w f s x p q e h =
     e
     ∙ ap (λ (y : Option ℕ). encoded (some w ⊕ bits DR (register f) ⊕ bits SR (register s) ⊕ y)) (ap inside q ∙ inside-encoded x)
@@ -174,7 +174,7 @@ arm i j r low w f s x p q e h =
     ∙ ap (λ (k : AsmInstr). encoded (word (meant k))) (sym p)
 
 -- an arm, by the shape of its operands; `row` is what the table has
-module _ (w : ℕ) (i : AsmInstr) (r low : Encoded) where
+module _ (w : ℕ) (i : AsmInstr) (r low : O.Option ℕ) where
   pub arm-last :
       (K : ℕ → ℕ → ImmOrReg → AsmInstr) → ((d s : ℕ) (o : ImmOrReg) → some w ⊕ bits DR (register d) ⊕ bits SR (register s) ⊕ bits reg_or_imm (operand_of o) ≡ word (meant (K d s o))) →
       (d s : ℕ) (o : ImmOrReg) → i ≡ K d s o → low ≡ encoded (bits reg_or_imm (operand_of o)) → r ≡ encoded (some w ⊕ bits DR (register d) ⊕ bits SR (register s) ⊕ inside low) → r ≡ encoded (word (meant i))
@@ -202,16 +202,16 @@ module _ (w : ℕ) (i : AsmInstr) (r low : Encoded) where
   pub arm-base :
       (K : ℕ → AsmInstr) → ((b : ℕ) → some w ⊕ bits SR (register b) ≡ word (meant (K b))) →
       (b : ℕ) → i ≡ K b → r ≡ encoded (some w ⊕ bits DR (register 0) ⊕ bits SR (register b) ⊕ some 0) → r ≡ encoded (word (meant i))
-  arm-base K row b p e = arm i (K b) r (Bits 0) w 0 b _ p refl e (base-only w b ∙ row b)
+  arm-base K row b p e = arm i (K b) r (Some 0) w 0 b _ p refl e (base-only w b ∙ row b)
 
 pub arm-not :
-    (i : AsmInstr) (r : Encoded) (d s : ℕ) → i ≡ NOT d s → r ≡ encoded (some 0x9000 ⊕ bits DR (register d) ⊕ bits SR (register s) ⊕ some 63) → r ≡ encoded (word (meant i))
+    (i : AsmInstr) (r : O.Option ℕ) (d s : ℕ) → i ≡ NOT d s → r ≡ encoded (some 0x9000 ⊕ bits DR (register d) ⊕ bits SR (register s) ⊕ some 63) → r ≡ encoded (word (meant i))
 unfolding word made find instructions joined meant when◌then◌else◌
-arm-not i r d s p e = arm i (NOT d s) r (Bits 63) 0x9000 d s _ p refl e (negated d s)
+arm-not i r d s p e = arm i (NOT d s) r (Some 63) 0x9000 d s _ p refl e (negated d s)
 
-pub arm-trap : (i : AsmInstr) (r : Encoded) (v : ℕ) → i ≡ TRAP v → r ≡ encoded (some 0xf000 ⊕ bits (num (unsigned 8)) (value v)) → r ≡ encoded (word (meant i))
+pub arm-trap : (i : AsmInstr) (r : O.Option ℕ) (v : ℕ) → i ≡ TRAP v → r ≡ encoded (some 0xf000 ⊕ bits (num (unsigned 8)) (value v)) → r ≡ encoded (word (meant i))
 unfolding word made find instructions joined meant when◌then◌else◌
 arm-trap i r v p e = e ∙ ap (λ (k : AsmInstr). encoded (word (meant k))) (sym p)
 
-pub fixed : (i j : AsmInstr) (b : ℕ) → i ≡ j → word (meant j) ≡ some b → Bits b ≡ encoded (word (meant i))
+pub fixed : (i j : AsmInstr) (b : ℕ) → i ≡ j → word (meant j) ≡ some b → Some b ≡ encoded (word (meant i))
 fixed i j b p h = ap encoded (sym h) ∙ ap (λ (k : AsmInstr). encoded (word (meant k))) (sym p)

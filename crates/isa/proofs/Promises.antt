@@ -11,10 +11,8 @@ use Rattle.rules.proofs.Bools.{never}
 use Rattle.isa_fields.specs.Fields.{encoded}
 use Rattle.isa.specs.Instructions.{operand_of, meant}
 use Rattle.isa.specs.Disassembly.{meant_if, meant_line}
-use Rattle.isa_fields.specs.declared.Encoded.{Encoded}
-use Rattle.isa_fields.specs.declared.Encoded.TheVariants.{Bits}
-use Rattle.isa.specs.declared.disassembly.Disassembled.{Disassembled}
-use Rattle.isa.specs.declared.disassembly.Disassembled.TheVariants as D
+use Rattle.std.specs.declared.option.Option as O
+use Rattle.std.specs.declared.option.Option.TheVariants.{Some, None}
 use Rattle.isa.specs.declared.disassembly.Line.{Line}
 use Rattle.isa.specs.declared.disassembly.Line.TheVariants as L
 use Rattle.isa.specs.declared.ImmOrReg.{ImmOrReg}
@@ -91,11 +89,11 @@ meant-once : (i j : AsmInstr) → meant i ≡ meant j → i ≡ j
 meant-once i j e = sym (back-meant i) ∙ ap back e ∙ back-meant j
 
 -- two answers are equal where they mean the same
-if-once : (r s : Disassembled) → meant_if r ≡ meant_if s → r ≡ s
-if-once (D.Instr i) (D.Instr j) e = let h : meant i ≡ meant j = cc in ap D.Instr (meant-once i j h)
-if-once (D.Instr i) D.Nothing e = never cc
-if-once D.Nothing (D.Instr j) e = never cc
-if-once D.Nothing D.Nothing e = refl
+if-once : (r s : O.Option AsmInstr) → meant_if r ≡ meant_if s → r ≡ s
+if-once (Some i) (Some j) e = let h : meant i ≡ meant j = cc in ap Some (meant-once i j h)
+if-once (Some i) None e = never cc
+if-once None (Some j) e = never cc
+if-once None None e = refl
 
 line-once : (r s : Line) → meant_line r ≡ meant_line s → r ≡ s
 line-once (L.Instr i) (L.Instr j) e = let h : meant i ≡ meant j = cc in ap L.Instr (meant-once i j h)
@@ -105,24 +103,24 @@ line-once (L.Fill m) (L.Fill n) e = cc
 
 -- `encode`, then `try_disassemble_line`: the instruction, up to the names that share a word
 pub encode-disassemble :
-    (i : AsmInstr) (r : Encoded) (w : ℕ) (d : Disassembled) →
-    r ≡ encoded (word (meant i)) → r ≡ Bits w → meant_if d ≡ disassemble w → Shown (meant i) (meant_if d)
+    (i : AsmInstr) (r : O.Option ℕ) (w : ℕ) (d : O.Option AsmInstr) →
+    r ≡ encoded (word (meant i)) → r ≡ Some w → meant_if d ≡ disassemble w → Shown (meant i) (meant_if d)
 encode-disassemble i r w d p q e = subst (Shown (meant i)) (sym e) (encoded-shows (meant i) w (is_some (word (meant i)) (sym p ∙ q))) where
-  is_some : (x : Option ℕ) → encoded x ≡ Bits w → x ≡ some w
+  is_some : (x : Option ℕ) → encoded x ≡ Some w → x ≡ some w
   is_some none h = never cc
   is_some (some v) h = cc
 
 -- `try_disassemble_line` to an instruction, then `encode`: the word
 pub disassemble-encode :
-    (w : ℕ) (d : Disassembled) (i : AsmInstr) (r : Encoded) →
-    meant_if d ≡ disassemble w → d ≡ D.Instr i → r ≡ encoded (word (meant i)) → r ≡ Bits w
+    (w : ℕ) (d : O.Option AsmInstr) (i : AsmInstr) (r : O.Option ℕ) →
+    meant_if d ≡ disassemble w → d ≡ Some i → r ≡ encoded (word (meant i)) → r ≡ Some w
 disassemble-encode w d i r e q p = p ∙ ap encoded (disassembled-encodes w (meant i) (sym e ∙ ap meant_if q))
 
 -- two answers that a contract allows are equal: `encode`; `try_disassemble_line`; `disassemble_line`
-pub encode-one-answer : (i : AsmInstr) (r s : Encoded) → r ≡ encoded (word (meant i)) → s ≡ encoded (word (meant i)) → r ≡ s
+pub encode-one-answer : (i : AsmInstr) (r s : O.Option ℕ) → r ≡ encoded (word (meant i)) → s ≡ encoded (word (meant i)) → r ≡ s
 encode-one-answer i r s p q = p ∙ sym q
 
-pub try-disassemble-one-answer : (w : ℕ) (r s : Disassembled) → meant_if r ≡ disassemble w → meant_if s ≡ disassemble w → r ≡ s
+pub try-disassemble-one-answer : (w : ℕ) (r s : O.Option AsmInstr) → meant_if r ≡ disassemble w → meant_if s ≡ disassemble w → r ≡ s
 try-disassemble-one-answer w r s p q = if-once r s (p ∙ sym q)
 
 pub disassemble-line-one-answer : (w : ℕ) (r s : Line) → meant_line r ≡ line w → meant_line s ≡ line w → r ≡ s

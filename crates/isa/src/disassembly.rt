@@ -6,25 +6,11 @@ ghost use Rattle.isa.specs.Disassembly.{extended, last_of, meant_if, meant_line}
 use crate::{AsmInstr, ImmOrReg, codes};
 use isa_fields::{HALF5, HALF6, HALF9, HALF11, VALUES5, VALUES6, VALUES9, VALUES11, WORD_MOST};
 
-// What a word disassembles to, if it is an instruction.
-#[derive(Clone, Copy)]
-pub enum Disassembled {
-    Instr(AsmInstr),
-    Nothing,
-}
-
 // A line of disassembly: an instruction, or a .fill of the word.
 #[derive(Clone, Copy)]
 pub enum Line {
     Instr(AsmInstr),
     Fill(u16),
-}
-
-// The last operand of ADD and AND, if its bits can be one.
-#[derive(Clone, Copy)]
-enum Last {
-    Operand(ImmOrReg),
-    Malformed,
 }
 
 // The bits of a signed field whose numbers are two halves: the sign bit fills the high ones.
@@ -64,37 +50,37 @@ fn offset11_of(word: u16) -> u16
     sign_extend(word % VALUES11, HALF11)
 }
 
-// A register needs bits 3 and 4 zero.
-fn last_operand(word: u16) -> Last
+// The last operand of ADD and AND, if its bits can be one: a register needs bits 3 and 4 zero.
+fn last_operand(word: u16) -> Option<ImmOrReg>
     ensures { result ≡ last_of word }
 {
     if word / codes::BIT_5 % 2 == 1 {
-        return Last::Operand(ImmOrReg::Imm(imm5_of(word)));
+        return Some(ImmOrReg::Imm(imm5_of(word)));
     }
     if word / codes::BIT_3 % 4 == 0 {
-        return Last::Operand(ImmOrReg::Reg(word % codes::REGISTERS));
+        return Some(ImmOrReg::Reg(word % codes::REGISTERS));
     }
-    Last::Malformed
+    None
 }
 
 // JSR by bit 11, else JSRR with no other bit.
-fn decode_jsr(word: u16) -> Disassembled
+fn decode_jsr(word: u16) -> Option<AsmInstr>
     requires { word / 4096 ≡ 4 }
     ensures { meant_if result ≡ disassemble word }
 {
     if word / codes::BIT_11 % 2 == 1 {
-        return Disassembled::Instr(AsmInstr::JSR(offset11_of(word)));
+        return Some(AsmInstr::JSR(offset11_of(word)));
     }
     if word / codes::BIT_9 % 4 == 0 {
         if word % codes::BIT_6 == 0 {
-            return Disassembled::Instr(AsmInstr::JSRR(word / codes::BIT_6 % codes::REGISTERS));
+            return Some(AsmInstr::JSRR(word / codes::BIT_6 % codes::REGISTERS));
         }
     }
-    Disassembled::Nothing
+    None
 }
 
 // JMP and RET, with no other bit.
-fn decode_jmp(word: u16) -> Disassembled
+fn decode_jmp(word: u16) -> Option<AsmInstr>
     requires { word / 4096 ≡ 12 }
     ensures { meant_if result ≡ disassemble word }
 {
@@ -102,79 +88,73 @@ fn decode_jmp(word: u16) -> Disassembled
     if word / codes::BIT_9 % codes::REGISTERS == 0 {
         if word % codes::BIT_6 == 0 {
             if reg == codes::LINK {
-                return Disassembled::Instr(AsmInstr::RET);
+                return Some(AsmInstr::RET);
             }
-            return Disassembled::Instr(AsmInstr::JMP(reg));
+            return Some(AsmInstr::JMP(reg));
         }
     }
-    Disassembled::Nothing
+    None
 }
 
 // A trap by its name, or by its number.
-fn decode_trap(word: u16) -> Disassembled
+fn decode_trap(word: u16) -> Option<AsmInstr>
     requires { word / 4096 ≡ 15 }
     ensures { meant_if result ≡ disassemble word }
 {
     let vect = word % codes::VECTORS;
     if word / codes::VECTORS == codes::TRAP_BYTE {
         match vect {
-            codes::GETC => Disassembled::Instr(AsmInstr::GETC),
-            codes::PUTC => Disassembled::Instr(AsmInstr::PUTC),
-            codes::PUTS => Disassembled::Instr(AsmInstr::PUTS),
-            codes::IN => Disassembled::Instr(AsmInstr::IN),
-            codes::PUTSP => Disassembled::Instr(AsmInstr::PUTSP),
-            codes::HALT => Disassembled::Instr(AsmInstr::HALT),
-            _ => Disassembled::Instr(AsmInstr::TRAP(vect)),
+            codes::GETC => Some(AsmInstr::GETC),
+            codes::PUTC => Some(AsmInstr::PUTC),
+            codes::PUTS => Some(AsmInstr::PUTS),
+            codes::IN => Some(AsmInstr::IN),
+            codes::PUTSP => Some(AsmInstr::PUTSP),
+            codes::HALT => Some(AsmInstr::HALT),
+            _ => Some(AsmInstr::TRAP(vect)),
         }
     } else {
-        Disassembled::Nothing
+        None
     }
 }
 
-// The instruction that encodes to exactly this word.
-pub fn try_disassemble_line(word: u16) -> Disassembled
+// The instruction that encodes to exactly this word, if there is one.
+pub fn try_disassemble_line(word: u16) -> Option<AsmInstr>
     ensures { meant_if result ≡ disassemble word }
 {
     if word < codes::LEAST_WORD {
-        return Disassembled::Nothing;
+        return None;
     }
     let dr = word / codes::BIT_9 % codes::REGISTERS;
     let sr = word / codes::BIT_6 % codes::REGISTERS;
     let opcode = word / codes::BIT_12;
     match opcode {
-        codes::BR => Disassembled::Instr(AsmInstr::BR(dr, offset9_of(word))),
-        codes::ADD => match last_operand(word) {
-            Last::Operand(o) => Disassembled::Instr(AsmInstr::ADD(dr, sr, o)),
-            Last::Malformed => Disassembled::Nothing,
-        },
-        codes::LD => Disassembled::Instr(AsmInstr::LD(dr, offset9_of(word))),
-        codes::ST => Disassembled::Instr(AsmInstr::ST(dr, offset9_of(word))),
+        codes::BR => Some(AsmInstr::BR(dr, offset9_of(word))),
+        codes::ADD => Some(AsmInstr::ADD(dr, sr, last_operand(word)?)),
+        codes::LD => Some(AsmInstr::LD(dr, offset9_of(word))),
+        codes::ST => Some(AsmInstr::ST(dr, offset9_of(word))),
         codes::JSR => decode_jsr(word),
-        codes::AND => match last_operand(word) {
-            Last::Operand(o) => Disassembled::Instr(AsmInstr::AND(dr, sr, o)),
-            Last::Malformed => Disassembled::Nothing,
-        },
-        codes::LDR => Disassembled::Instr(AsmInstr::LDR(dr, sr, offset6_of(word))),
-        codes::STR => Disassembled::Instr(AsmInstr::STR(dr, sr, offset6_of(word))),
+        codes::AND => Some(AsmInstr::AND(dr, sr, last_operand(word)?)),
+        codes::LDR => Some(AsmInstr::LDR(dr, sr, offset6_of(word))),
+        codes::STR => Some(AsmInstr::STR(dr, sr, offset6_of(word))),
         codes::RTI => {
             if word == codes::RTI_WORD {
-                Disassembled::Instr(AsmInstr::RTI)
+                Some(AsmInstr::RTI)
             } else {
-                Disassembled::Nothing
+                None
             }
         }
         codes::NOT => {
             if word % codes::BIT_6 == codes::NOT_LOW {
-                Disassembled::Instr(AsmInstr::NOT(dr, sr))
+                Some(AsmInstr::NOT(dr, sr))
             } else {
-                Disassembled::Nothing
+                None
             }
         }
-        codes::LDI => Disassembled::Instr(AsmInstr::LDI(dr, offset9_of(word))),
-        codes::STI => Disassembled::Instr(AsmInstr::STI(dr, offset9_of(word))),
+        codes::LDI => Some(AsmInstr::LDI(dr, offset9_of(word))),
+        codes::STI => Some(AsmInstr::STI(dr, offset9_of(word))),
         codes::JMP => decode_jmp(word),
-        codes::RESERVED => Disassembled::Nothing,
-        codes::LEA => Disassembled::Instr(AsmInstr::LEA(dr, offset9_of(word))),
+        codes::RESERVED => None,
+        codes::LEA => Some(AsmInstr::LEA(dr, offset9_of(word))),
         _ => decode_trap(word), // TRAP: four bits hold no more
     }
 }
@@ -184,7 +164,7 @@ pub fn disassemble_line(word: u16) -> Line
     ensures { meant_line result ≡ line word }
 {
     match try_disassemble_line(word) {
-        Disassembled::Instr(instr) => Line::Instr(instr),
-        Disassembled::Nothing => Line::Fill(word),
+        Some(instr) => Line::Instr(instr),
+        None => Line::Fill(word),
     }
 }

@@ -10,8 +10,6 @@ ghost use Rattle.isa.specs.Instructions.{operand_of, meant};
 mod codes; // codes.rt: the numbers of the instruction set by name
 pub mod disassembly; // disassembly.rt: from a word back to its instruction
 
-use isa_fields::Encoded;
-
 // A register, from 0 to 7.
 pub type Reg = u16;
 
@@ -61,82 +59,70 @@ pub enum AsmInstr {
 }
 
 // The last operand of ADD and AND: a register, or bit 5 and an imm5.
-fn imm_or_reg(operand: ImmOrReg) -> Encoded
+fn imm_or_reg(operand: ImmOrReg) -> Option<u16>
     ensures { result ≡ encoded (bits reg_or_imm (operand_of operand)) }
 {
     match operand {
-        ImmOrReg::Imm(d) => match isa_fields::low5(d) {
-            Encoded::Bits(b) => Encoded::Bits(codes::BIT_5 + b),
-            Encoded::Outside => Encoded::Outside,
-        },
-        ImmOrReg::Reg(r) => {
-            if r <= codes::LAST_REG {
-                Encoded::Bits(r)
-            } else {
-                Encoded::Outside
-            }
-        }
+        ImmOrReg::Imm(d) => Some(codes::BIT_5 + isa_fields::low5(d)?),
+        ImmOrReg::Reg(r) => { if r <= codes::LAST_REG { Some(r) } else { None } }
     }
 }
 
 // A word with a register at bits 9 to 11, one at bits 6 to 8, and the low bits; a register that is not there is 0.
-fn join_bits(word: u16, first: Reg, second: Reg, low: Encoded) -> Encoded
+fn join_bits(word: u16, first: Reg, second: Reg, low: Option<u16>) -> Option<u16>
     requires { word + size low ≤ 61503 }
     ensures { result ≡ encoded (some word ⊕ bits DR (register first) ⊕ bits SR (register second) ⊕ inside low) }
 {
     if codes::LAST_REG < first {
-        return Encoded::Outside;
+        return None;
     }
     if codes::LAST_REG < second {
-        return Encoded::Outside;
+        return None;
     }
-    match low {
-        Encoded::Bits(b) => Encoded::Bits(word + first * codes::BIT_9 + second * codes::BIT_6 + b),
-        Encoded::Outside => Encoded::Outside,
-    }
+    Some(word + first * codes::BIT_9 + second * codes::BIT_6 + low?)
 }
 
 // A trap by its vector.
-fn trap_word(vect: TrapVect8) -> Encoded
+fn trap_word(vect: TrapVect8) -> Option<u16>
     ensures { result ≡ encoded (some 0xf000 ⊕ bits (num (unsigned 8)) (value vect)) }
 {
     if vect <= codes::LAST_VECTOR {
-        Encoded::Bits(codes::TRAP_WORD + vect)
+        Some(codes::TRAP_WORD + vect)
     } else {
-        Encoded::Outside
+        None
     }
 }
 
 // The word of an instruction, or that an operand lies outside its field. It is for callers who have an instruction: assembling makes none, but adds the operands of a
 // statement to the word of its row as they are read (`parse_field`, `pass2_encode`). Both follow the rules' one table.
-pub fn encode(instr: AsmInstr) -> Encoded
+pub fn encode(instr: AsmInstr) -> Option<u16>
     ensures { result ≡ encoded (word (meant instr)) }
 {
     match instr {
         AsmInstr::ADD(dr, sr1, sr2) => join_bits(codes::ADD_WORD, dr, sr1, imm_or_reg(sr2)),
         AsmInstr::AND(dr, sr1, sr2) => join_bits(codes::AND_WORD, dr, sr1, imm_or_reg(sr2)),
         AsmInstr::BR(cc, off) => join_bits(codes::BR_WORD, cc, 0, isa_fields::low9(off)),
-        AsmInstr::JMP(br) => join_bits(codes::JMP_WORD, 0, br, Encoded::Bits(0)),
+        AsmInstr::JMP(br) => join_bits(codes::JMP_WORD, 0, br, Some(0)),
         AsmInstr::JSR(off) => join_bits(codes::JSR_WORD, 0, 0, isa_fields::low11(off)),
-        AsmInstr::JSRR(br) => join_bits(codes::JSRR_WORD, 0, br, Encoded::Bits(0)),
+        AsmInstr::JSRR(br) => join_bits(codes::JSRR_WORD, 0, br, Some(0)),
         AsmInstr::LD(dr, off) => join_bits(codes::LD_WORD, dr, 0, isa_fields::low9(off)),
         AsmInstr::LDI(dr, off) => join_bits(codes::LDI_WORD, dr, 0, isa_fields::low9(off)),
         AsmInstr::LDR(dr, br, off) => join_bits(codes::LDR_WORD, dr, br, isa_fields::low6(off)),
         AsmInstr::LEA(dr, off) => join_bits(codes::LEA_WORD, dr, 0, isa_fields::low9(off)),
-        AsmInstr::NOT(dr, sr) => join_bits(codes::NOT_WORD, dr, sr, Encoded::Bits(codes::NOT_LOW)),
-        AsmInstr::RET => Encoded::Bits(codes::RET_WORD),
-        AsmInstr::RTI => Encoded::Bits(codes::RTI_WORD),
+        AsmInstr::NOT(dr, sr) => join_bits(codes::NOT_WORD, dr, sr, Some(codes::NOT_LOW)),
+        AsmInstr::RET => Some(codes::RET_WORD),
+        AsmInstr::RTI => Some(codes::RTI_WORD),
         AsmInstr::ST(sr, off) => join_bits(codes::ST_WORD, sr, 0, isa_fields::low9(off)),
         AsmInstr::STI(sr, off) => join_bits(codes::STI_WORD, sr, 0, isa_fields::low9(off)),
         AsmInstr::STR(sr, br, off) => join_bits(codes::STR_WORD, sr, br, isa_fields::low6(off)),
         AsmInstr::TRAP(vect) => trap_word(vect),
         AsmInstr::NOP(off) => join_bits(codes::BR_WORD, 0, 0, isa_fields::low9(off)),
-        AsmInstr::GETC => Encoded::Bits(codes::GETC_WORD),
-        AsmInstr::OUT => Encoded::Bits(codes::PUTC_WORD),
-        AsmInstr::PUTC => Encoded::Bits(codes::PUTC_WORD),
-        AsmInstr::PUTS => Encoded::Bits(codes::PUTS_WORD),
-        AsmInstr::IN => Encoded::Bits(codes::IN_WORD),
-        AsmInstr::PUTSP => Encoded::Bits(codes::PUTSP_WORD),
-        AsmInstr::HALT => Encoded::Bits(codes::HALT_WORD),
+        AsmInstr::GETC => Some(codes::GETC_WORD),
+        AsmInstr::OUT => Some(codes::PUTC_WORD),
+        AsmInstr::PUTC => Some(codes::PUTC_WORD),
+        AsmInstr::PUTS => Some(codes::PUTS_WORD),
+        AsmInstr::IN => Some(codes::IN_WORD),
+        AsmInstr::PUTSP => Some(codes::PUTSP_WORD),
+        AsmInstr::HALT => Some(codes::HALT_WORD),
     }
 }

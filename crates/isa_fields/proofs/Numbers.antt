@@ -5,22 +5,23 @@ use Rattle.rules.specs.Base.{when◌then◌else◌, Outcome, ok, refuse, nowhere
 use Rattle.rules.specs.Words.{range, signed, fits, field, offset, reach, bits, num, value, Width}
 use Rattle.rules.proofs.Fields.{by-test, halves, room, fits-above, fits_below, fits_not}
 use Rattle.isa_fields.specs.Fields.{encoded, meant_offset, signed16, tested}
-use Rattle.isa_fields.specs.declared.Encoded.TheVariants.{Bits, Outside}
-use Rattle.isa_fields.specs.declared.Replaced.TheVariants.{Offset, OffsetNewErr}
+use Rattle.std.specs.declared.option.Option.TheVariants.{Some, None}
+use Rattle.std.specs.declared.result.Result.TheVariants.{Ok, Err}
+use Rattle.isa_fields.specs.declared.OffsetNewErr.TheVariants.{CannotFitSigned}
 
 -- a number of sixteen bits
 module _ (d l h m : ℕ) where
-  taken : fits (range l h m) d ≡ true → Bits (d % m) ≡ encoded (bits (num (range l h m)) (value d))
+  taken : fits (range l h m) d ≡ true → Some (d % m) ≡ encoded (bits (num (range l h m)) (value d))
   unfolding bits field when◌then◌else◌
   taken e = rw e
 
-  pub value-up : d ≤ h → Bits (d % m) ≡ encoded (bits (num (range l h m)) (value d))
+  pub value-up : d ≤ h → Some (d % m) ≡ encoded (bits (num (range l h m)) (value d))
   value-up i = taken (fits-above (range l h m) d i)
 
-  pub value-down : d < 65536 → 65535 - d < l → Bits (d % m) ≡ encoded (bits (num (range l h m)) (value d))
+  pub value-down : d < 65536 → 65535 - d < l → Some (d % m) ≡ encoded (bits (num (range l h m)) (value d))
   value-down f i = let k : 65536 - l ≤ d = omega arith in taken (fits_below (range l h m) d k f)
 
-  pub value_out : d < 65536 → h < d → l ≤ 65535 - d → Outside ≡ encoded (bits (num (range l h m)) (value d))
+  pub value_out : d < 65536 → h < d → l ≤ 65535 - d → None ≡ encoded (bits (num (range l h m)) (value d))
   unfolding bits when◌then◌else◌
   value_out f i j = let k : d < 65536 - l = omega arith in rw (fits_not (range l h m) d i k)
 
@@ -50,11 +51,11 @@ module _ (w : ℕ) (wide : Width w) where
   half : 2 ^ (w - 1) ≤ 32768
   half = omega (arith, halves w wide, room w wide)
 
-  low_up : (d : ℕ) → d < 32768 → tested (negsuc (2 ^ (w - 1) - 1)) (pos (2 ^ (w - 1) - 1)) d ≡ cond (ltb (2 ^ (w - 1) - 1) d) OffsetNewErr (Offset d)
+  low_up : (d : ℕ) → d < 32768 → tested (negsuc (2 ^ (w - 1) - 1)) (pos (2 ^ (w - 1) - 1)) d ≡ cond (ltb (2 ^ (w - 1) - 1) d) (Err CannotFitSigned) (Ok d)
   unfolding tested signed16
   low_up d l = rw (lt-ltb d 32768 l)
 
-  low-down : (d : ℕ) → 32768 ≤ d → tested (negsuc (2 ^ (w - 1) - 1)) (pos (2 ^ (w - 1) - 1)) d ≡ cond (ltb (2 ^ (w - 1) - 1) (65535 - d)) OffsetNewErr (Offset d)
+  low-down : (d : ℕ) → 32768 ≤ d → tested (negsuc (2 ^ (w - 1) - 1)) (pos (2 ^ (w - 1) - 1)) d ≡ cond (ltb (2 ^ (w - 1) - 1) (65535 - d)) (Err CannotFitSigned) (Ok d)
   unfolding tested signed16
   low-down d l = rw (le-ltb d 32768 l)
 

@@ -6,18 +6,10 @@ ghost use Rattle.rules.specs.Base.{nowhere};
 ghost use Rattle.rules.specs.Words.{range, signed, bits, num, value, reach, offset};
 ghost use Rattle.isa_fields.specs.Fields.{encoded, signed16, meant_offset, tested};
 
-// The bits of a field or of a whole word, or that a number lies outside its field.
+// Why there is no offset: a label lies too far for the field.
 #[derive(Clone, Copy)]
-pub enum Encoded {
-    Bits(u16),
-    Outside,
-}
-
-// A label's offset as sixteen bits, or that it lies outside its field.
-#[derive(Clone, Copy)]
-pub enum Replaced {
-    Offset(u16),
-    OffsetNewErr,
+pub enum OffsetNewErr {
+    CannotFitSigned,
 }
 
 // The largest word, the first with its sign bit, and how many words there are.
@@ -61,40 +53,40 @@ const LEAST11: i32 = -(HALF11 as i32);
 
 const GREATEST11: i32 = MOST11 as i32;
 
-// A number of sixteen bits: its bits in a field where it lies from -low to high.
-fn value_bits(d: u16, low: u16, high: u16, modulus: u16) -> Encoded
+// A number of sixteen bits: its bits in a field, if it lies from -low to high.
+fn value_bits(d: u16, low: u16, high: u16, modulus: u16) -> Option<u16>
     requires { 0 < modulus }
     ensures { result ≡ encoded (bits (num (range low high modulus)) (value d)) }
 {
     if d <= high {
-        return Encoded::Bits(d % modulus);
+        return Some(d % modulus);
     }
     if WORD_MOST - d < low {
-        return Encoded::Bits(d % modulus);
+        return Some(d % modulus);
     }
-    Encoded::Outside
+    None
 }
 
 // The low bits of a word, from a number of sixteen bits that fits them.
-pub fn low5(d: u16) -> Encoded
+pub fn low5(d: u16) -> Option<u16>
     ensures { result ≡ encoded (bits (num (signed 5)) (value d)) }
 {
     value_bits(d, HALF5, MOST5, VALUES5)
 }
 
-pub fn low6(d: u16) -> Encoded
+pub fn low6(d: u16) -> Option<u16>
     ensures { result ≡ encoded (bits (num (signed 6)) (value d)) }
 {
     value_bits(d, HALF6, MOST6, VALUES6)
 }
 
-pub fn low9(d: u16) -> Encoded
+pub fn low9(d: u16) -> Option<u16>
     ensures { result ≡ encoded (bits (num (signed 9)) (value d)) }
 {
     value_bits(d, HALF9, MOST9, VALUES9)
 }
 
-pub fn low11(d: u16) -> Encoded
+pub fn low11(d: u16) -> Option<u16>
     ensures { result ≡ encoded (bits (num (signed 11)) (value d)) }
 {
     value_bits(d, HALF11, MOST11, VALUES11)
@@ -112,29 +104,29 @@ fn signed_offset(d: u16) -> i32
 }
 
 // The label's address less the address after the instruction, where that lies from least to most.
-fn replace_pc_offset(label: u16, pc: u16, least: i32, most: i32) -> Replaced
+fn replace_pc_offset(label: u16, pc: u16, least: i32, most: i32) -> Result<u16, OffsetNewErr>
     ensures { result ≡ tested least most (offset label pc) }
 {
     let d = std::num::wrapping_sub_u16(label, pc);
     let s = signed_offset(d);
     if s < least {
-        return Replaced::OffsetNewErr;
+        return Err(OffsetNewErr::CannotFitSigned);
     }
     if most < s {
-        return Replaced::OffsetNewErr;
+        return Err(OffsetNewErr::CannotFitSigned);
     }
-    Replaced::Offset(d)
+    Ok(d)
 }
 
 // The offset of BR, LD, LDI, LEA, NOP, ST and STI.
-pub fn replace_pc_offset9(label: u16, pc: u16) -> Replaced
+pub fn replace_pc_offset9(label: u16, pc: u16) -> Result<u16, OffsetNewErr>
     ensures { meant_offset result ≡ reach (signed 9) label pc nowhere }
 {
     replace_pc_offset(label, pc, LEAST9, GREATEST9)
 }
 
 // The offset of JSR.
-pub fn replace_pc_offset11(label: u16, pc: u16) -> Replaced
+pub fn replace_pc_offset11(label: u16, pc: u16) -> Result<u16, OffsetNewErr>
     ensures { meant_offset result ≡ reach (signed 11) label pc nowhere }
 {
     replace_pc_offset(label, pc, LEAST11, GREATEST11)

@@ -1,4 +1,6 @@
 -- What each call puts is what its contract says. Assumes nothing.
+use Rattle.std.specs.declared.result.Result.{Result}
+use Rattle.base_refusals.specs.declared.Fault.{Fault}
 use Prim.Native.Nat.{ℕ, ◌+◌, ◌-◌, ◌*◌, ◌≤◌}
 use mathlib.Core.Path.{◌≡◌, refl, sym, ◌∙◌, ap}
 use mathlib.Core.List.{List}
@@ -14,7 +16,6 @@ use Rattle.lex_token.specs.declared.Next.{Next}
 use Rattle.lex_token.specs.declared.Lexeme.{Lexeme}
 use Rattle.lex_token.specs.Flat.{flat_next}
 use Rattle.parse.specs.Coded.{coded_statements, source_statements}
-use Rattle.parse.specs.declared.Statements.{Statements}
 use Rattle.rules.specs.Calls.{OfObject}
 use Rattle.rules.proofs.Bools.{never}
 use Rattle.link.specs.Call.{Linked}
@@ -22,9 +23,12 @@ use Rattle.object_answer.specs.Writes.{Writes}
 use Rattle.object_answer.specs.declared.Written.{Written}
 use Rattle.object_lookup.specs.Told.{said, Reversed}
 use Rattle.object_lookup.proofs.Once.{row-valid}
-use Rattle.object_lookup.specs.declared.Said.{Said}
-use Rattle.object_lookup.specs.declared.Found.{Found}
-use Rattle.object_lookup.specs.declared.Found.TheVariants as find
+use Rattle.std.specs.declared.result.Result.TheVariants.{Ok, Err}
+use Rattle.std.specs.declared.option.Option as O
+use Rattle.std.specs.declared.option.Option.TheVariants.{Some, None}
+use Rattle.object.specs.declared.Label.{Label}
+use Rattle.object_check.specs.declared.ObjectErr.{ObjectErr}
+use Rattle.object_check.specs.declared.ObjectErr.TheVariants.{ShortBuffer, BadObject}
 use Rattle.laws.proofs.Single.{Single, source-single}
 use Rattle.object_answer.specs.declared.Answer as object_answer
 use Rattle.object_answer.specs.Meant.{meant, Leaves}
@@ -57,8 +61,8 @@ module _ {r : Reply} {out : List ℕ} (p : out ≡ row r) where
   pub next-put : {t : Lexeme} (n : Next) → t ≡ flat_next n → r ≡ reply (lexeme_told t) → out ≡ numbers (next_told n)
   next-put n q e = put (e ∙ (ap (λ (x : Lexeme). reply (lexeme_told x)) q ∙ ap reply (lexeme-told n))) p
 
-  pub statements-put : {n : Statements} (s : List ℕ) → n ≡ coded_statements (source_statements s) → r ≡ reply (statements_told n) → out ≡ numbers (checked (source_statements s))
-  statements-put s q e = put (e ∙ (ap (λ (x : Statements). reply (statements_told x)) q ∙ ap reply (source-checked s))) p
+  pub statements-put : {n : Result (Unit {0}) Fault} (s : List ℕ) → n ≡ coded_statements (source_statements s) → r ≡ reply (statements_told n) → out ≡ numbers (checked (source_statements s))
+  statements-put s q e = put (e ∙ (ap (λ (x : Result (Unit {0}) Fault). reply (statements_told x)) q ∙ ap reply (source-checked s))) p
 
   pub place-put : (s : List ℕ) (i : ℕ) {b : List ℕ} {k l : ℕ} → b ≡ part_at s 0 (i - 0) → k ≡ feeds b → l ≡ since b → r ≡ reply (counted k l 0 0) → out ≡ numbers (place_told s i)
   place-put s i h f g e =
@@ -86,22 +90,22 @@ module _ {r : Reply} {out : List ℕ} (p : out ≡ row r) where
     pub write-put : {rule : ℕ → Object → Outcome (List ℕ)} {len : ℕ} {x : List ℕ} {l : Written} → Writes rule c b len l x → r ≡ reply (written_told l) → WriteCall rule c b len x out
     write-put {l = l} q e = record { written = l; called = q; told = put e p }
 
-    pub lookup-put : {m : List ℕ} (s : Said) → OfObject c b (ok (lookup_label (view c b) m)) (said s) → r ≡ reply (said_told (said s)) → LookupCall c b m out
+    pub lookup-put : {m : List ℕ} (s : Result (O.Option Label) ObjectErr) → OfObject c b (ok (lookup_label (view c b) m)) (said s) → r ≡ reply (said_told (said s)) → LookupCall c b m out
     lookup-put s q e = record { said = said s; lent = q; told = put e p }
 
-    pub rev-lookup-put : {a : ℕ} {f : Found} → Reversed c b a f → r ≡ reply (found_told b.labels f) → RevLookupCall c b a out
+    pub rev-lookup-put : {a : ℕ} {f : Result (O.Option ℕ) ObjectErr} → Reversed c b a f → r ≡ reply (found_told b.labels f) → RevLookupCall c b a out
     rev-lookup-put {f = f} q e = record { found = f; reversed = q; told = put e p }
 
 -- a row that is found lies in the table
-pub row-in : {c : Counts} {b : Buffers} {a : ℕ} (f : Found) → Reversed c b a f → RowIn (length b.labels) f
+pub row-in : {c : Counts} {b : Buffers} {a : ℕ} (f : Result (O.Option ℕ) ObjectErr) → Reversed c b a f → RowIn (length b.labels) f
 row-in {c} {b} {a} f q = record { row = go f q }
   where
-    go : (f : Found) → Reversed c b a f → (k : ℕ) → f ≡ find.Row k → k * 4 + 4 ≤ length b.labels
-    go (find.Row j) q k e =
+    go : (f : Result (O.Option ℕ) ObjectErr) → Reversed c b a f → (k : ℕ) → f ≡ Ok (Some k) → k * 4 + 4 ≤ length b.labels
+    go (Ok (Some j)) q k e =
         let z : j ≡ k = cc in
         let room = (row-valid j q.name).labels.room in
         let l = q.row j refl in
         omega arith
-    go find.Nothing q k e = never cc
-    go find.ShortBuffer q k e = never cc
-    go find.BadObject q k e = never cc
+    go (Ok None) q k e = never cc
+    go (Err ShortBuffer) q k e = never cc
+    go (Err BadObject) q k e = never cc

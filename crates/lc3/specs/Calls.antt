@@ -15,7 +15,9 @@ use Rattle.link.specs.Call.{Outcomes}
 use Rattle.object_answer.specs.Writes.{Writes, one_answer, one_buffer}
 use Rattle.object_answer.specs.declared.Written.{Written}
 use Rattle.object_lookup.specs.Told.{Reversed}
-use Rattle.object_lookup.specs.declared.Found.{Found}
+use Rattle.std.specs.declared.result.Result.{Result}
+use Rattle.std.specs.declared.option.Option as O
+use Rattle.object_check.specs.declared.ObjectErr.{ObjectErr}
 use Rattle.object_lookup.proofs.Once.{found-once}
 use Rattle.laws_stored.specs.Offsets.{part_at}
 use Rattle.view_places.specs.Lines.{feeds, since}
@@ -66,7 +68,7 @@ pub record LookupCall (c : Counts) (b : Buffers) (m : List ℕ) (out : List ℕ)
 
 -- the label at the address a
 pub record RevLookupCall (c : Counts) (b : Buffers) (a : ℕ) (out : List ℕ) : Type 0 where
-  pub found : Found
+  pub found : Result (O.Option ℕ) ObjectErr
   pub reversed : Reversed c b a found
   pub told : out ≡ numbers (found_told b.labels found)
 
@@ -95,4 +97,4 @@ module _ {c : Counts} {b : Buffers} where
 
   pub rev-lookup-call-once : {a : ℕ} {out also : List ℕ} → RevLookupCall c b a out → RevLookupCall c b a also → out ≡ also
   rev-lookup-call-once {a} p q =
-      p.told ∙ (ap (λ (r : Found). numbers (found_told b.labels r)) (found-once c b a p.found q.found p.reversed q.reversed) ∙ sym q.told)
+      p.told ∙ (ap (λ (r : Result (O.Option ℕ) ObjectErr). numbers (found_told b.labels r)) (found-once c b a p.found q.found p.reversed q.reversed) ∙ sym q.told)

@@ -61,7 +61,7 @@ pub extern "C" fn lc3_place(src: &[u8], at: usize, out: &mut [u64; 9])
 pub extern "C" fn lc3_refusal(number: u16, text: &mut [u8], out: &mut [u64; 9])
     ensures { RefusalCall number (length text.old) text.new out.new }
 {
-    base_buffers::zero_u8(text);
+    base_buffers::clear(text, 0);
     let n = view_refusal::put_title(text, 0, number);
     lc3_answers::put_answer(out, lc3_answers::told_written(Written::Bytes(n)));
 }

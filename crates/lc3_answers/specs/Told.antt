@@ -1,4 +1,8 @@
 -- What each call from another language is told: an answer in nine numbers. Assumes nothing.
+use Rattle.std.specs.declared.result.Result.{Result}
+use Rattle.std.specs.declared.result.Result.TheVariants.{Ok, Err}
+use Rattle.base_refusals.specs.declared.Fault.{Fault}
+use Rattle.base_refusals.specs.Refusals.{fault}
 use Rattle.std.specs.Prelude.{ℕ, ◌+◌, ◌*◌, ◌≤◌, ◌≡◌, List, [], ◌∷◌, get_or, eqb}
 use Rattle.std.proofs.Math.Option.{Option, none, some}
 use Rattle.rules.specs.Base.{when◌then◌else◌, Span, span, nowhere, Outcome, ok, refused}
@@ -10,12 +14,12 @@ use Rattle.lex_token.specs.declared.Next.{Next}
 use Rattle.lex_token.specs.declared.Next.TheVariants as next
 use Rattle.lex_token.specs.declared.Lexeme.{Lexeme}
 use Rattle.lex_token.specs.Flat.{lexeme, fault_sort, flat_token}
-use Rattle.parse.specs.declared.Statements.{Statements}
-use Rattle.parse.specs.declared.Statements.TheVariants as all
 use Rattle.object_answer.specs.declared.Written.{Written}
 use Rattle.object_answer.specs.declared.Written.TheVariants.{Bytes, Refused}
-use Rattle.object_lookup.specs.declared.Found.{Found}
-use Rattle.object_lookup.specs.declared.Found.TheVariants as find
+use Rattle.std.specs.declared.option.Option as O
+use Rattle.std.specs.declared.option.Option.TheVariants.{Some, None}
+use Rattle.object_check.specs.declared.ObjectErr.{ObjectErr}
+use Rattle.object_check.specs.declared.ObjectErr.TheVariants.{ShortBuffer, BadObject}
 use Rattle.lc3_answers.specs.declared.Reply.{Reply}
 
 -- an answer as the code holds it, and its numbers in a row
@@ -64,9 +68,9 @@ abbrev pub lexeme_told : Lexeme → Answer
 lexeme_told t = when eqb t.sort fault_sort then refused_at t.value (span t.start t.end) else token_told t
 
 -- all statements
-abbrev pub statements_told : Statements → Answer
-statements_told all.Accepted = counted 0 0 0 0
-statements_told (all.Refused n a e) = refused_at n (span a e)
+abbrev pub statements_told : Result (Unit {0}) Fault → Answer
+statements_told (Ok u) = counted 0 0 0 0
+statements_told (Err f) = refused_at f.number (span f.start f.end)
 
 -- a listing or a stored object: how many bytes
 abbrev pub written_told : Written → Answer
@@ -81,15 +85,15 @@ said_told (ok none) = counted 0 0 0 0
 said_told (refused r) = refusal r
 
 -- an address: found, the label row, its name's start and length
-abbrev pub found_told : List ℕ → Found → Answer
-found_told ls (find.Row k) = counted 1 k (get_or ls (k * 4 + 2) 0) (get_or ls (k * 4 + 3) 0)
-found_told ls find.Nothing = counted 0 0 0 0
-found_told ls find.ShortBuffer = refused_at 42 nowhere
-found_told ls find.BadObject = refused_at 43 nowhere
+abbrev pub found_told : List ℕ → Result (O.Option ℕ) ObjectErr → Answer
+found_told ls (Ok (Some k)) = counted 1 k (get_or ls (k * 4 + 2) 0) (get_or ls (k * 4 + 3) 0)
+found_told ls (Ok None) = counted 0 0 0 0
+found_told ls (Err ShortBuffer) = refused_at 42 nowhere
+found_told ls (Err BadObject) = refused_at 43 nowhere
 
 -- the row lies in a table of n numbers
-pub record RowIn (n : ℕ) (r : Found) : Type 0 where
-  pub row : (k : ℕ) → r ≡ find.Row k → k * 4 + 4 ≤ n
+pub record RowIn (n : ℕ) (r : Result (O.Option ℕ) ObjectErr) : Type 0 where
+  pub row : (k : ℕ) → r ≡ Ok (Some k) → k * 4 + 4 ≤ n
 
 -- the last operand of ADD and AND: a register's number, or an immediate's bits above 65535
 abbrev pub operand_told : Operand → ℕ

@@ -10,13 +10,13 @@ ghost use Rattle.object_answer.specs.Meant.{meant as meant_answer};
 ghost use Rattle.object_lookup.specs.Told.{said};
 ghost use Rattle.lc3_answers.specs.Told.{reply, row, four, counted, refused_at, token_told, lexeme_told, statements_told, written_told, said_told, RowIn, found_told, operand_told, instr_told, line_told};
 
-use base_casts::{long, long8, long16, long32};
+use base_refusals::{BAD_OBJECT, Fault, SHORT_BUFFER};
 use isa::disassembly::Line;
 use isa::{AsmInstr, ImmOrReg};
 use lex_token::{FAULT, Lexeme};
+use object::Label;
 use object_answer::{Answer, Written};
-use object_lookup::{Found, Said};
-use parse::Statements;
+use object_check::ObjectErr;
 
 #[derive(Clone, Copy)]
 pub struct Reply {
@@ -63,8 +63,8 @@ fn refused(number: u64, start: usize, end: usize) -> Reply
 {
     Reply {
         number,
-        start: long(start),
-        end: long(end),
+        start: start as u64,
+        end: end as u64,
         start2: 0,
         end2: 0,
         first: 0,
@@ -79,15 +79,15 @@ pub fn told_answer(a: Answer) -> Reply
     ensures { result ≡ reply (meant_answer a) }
 {
     Reply {
-        number: long16(a.number),
-        start: long(a.start),
-        end: long(a.end),
-        start2: long(a.start2),
-        end2: long(a.end2),
-        first: long(a.blocks),
-        second: long(a.words),
-        third: long(a.labels),
-        fourth: long(a.relocations),
+        number: u64::from(a.number),
+        start: a.start as u64,
+        end: a.end as u64,
+        start2: a.start2 as u64,
+        end2: a.end2 as u64,
+        first: a.blocks as u64,
+        second: a.words as u64,
+        third: a.labels as u64,
+        fourth: a.relocations as u64,
     }
 }
 
@@ -97,8 +97,8 @@ fn told_token(sort: u64, value: u64, start: usize, end: usize) -> Reply
 {
     Reply {
         number: 0,
-        start: long(start),
-        end: long(end),
+        start: start as u64,
+        end: end as u64,
         start2: 0,
         end2: 0,
         first: sort,
@@ -113,18 +113,18 @@ pub fn told_lexeme(t: Lexeme) -> Reply
     ensures { result ≡ reply (lexeme_told t) }
 {
     if t.sort == FAULT {
-        return refused(long16(t.value), t.start, t.end);
+        return refused(u64::from(t.value), t.start, t.end);
     }
-    told_token(long8(t.sort), long16(t.value), t.start, t.end)
+    told_token(u64::from(t.sort), u64::from(t.value), t.start, t.end)
 }
 
 // The answer of reading all statements.
-pub fn told_statements(statements: Statements) -> Reply
+pub fn told_statements(statements: Result<(), Fault>) -> Reply
     ensures { result ≡ reply (statements_told statements) }
 {
     match statements {
-        Statements::Accepted => accepted(0, 0, 0, 0),
-        Statements::Refused { number, start, end } => refused(long16(number), start, end),
+        Ok(()) => accepted(0, 0, 0, 0),
+        Err(fault) => refused(u64::from(fault.number), fault.start, fault.end),
     }
 }
 
@@ -133,8 +133,8 @@ pub fn told_written(written: Written) -> Reply
     ensures { result ≡ reply (written_told written) }
 {
     match written {
-        Written::Bytes(n) => accepted(long(n), 0, 0, 0),
-        Written::Refused(number) => refused(long16(number), 0, 0),
+        Written::Bytes(n) => accepted(n as u64, 0, 0, 0),
+        Written::Refused(number) => refused(u64::from(number), 0, 0),
     }
 }
 
@@ -142,19 +142,19 @@ pub fn told_written(written: Written) -> Reply
 pub fn told_place(lines: usize, bytes: usize) -> Reply
     ensures { result ≡ reply (counted lines bytes 0 0) }
 {
-    accepted(long(lines), long(bytes), 0, 0)
+    accepted(lines as u64, bytes as u64, 0, 0)
 }
 
 // The answer of looking up a name.
-pub fn told_said(s: Said) -> Reply
+pub fn told_said(s: Result<Option<Label>, ObjectErr>) -> Reply
     ensures { result ≡ reply (said_told (said s)) }
 {
     match s {
-        Said::Defined(address) => accepted(1, 0, long32(address), 0),
-        Said::External => accepted(1, 1, 0, 0),
-        Said::Nothing => accepted(0, 0, 0, 0),
-        Said::ShortBuffer => refused(42, 0, 0),
-        Said::BadObject => refused(43, 0, 0),
+        Ok(Some(Label::Defined(address))) => accepted(1, 0, u64::from(address), 0),
+        Ok(Some(Label::External)) => accepted(1, 1, 0, 0),
+        Ok(None) => accepted(0, 0, 0, 0),
+        Err(ObjectErr::ShortBuffer) => refused(u64::from(SHORT_BUFFER), 0, 0),
+        Err(ObjectErr::BadObject) => refused(u64::from(BAD_OBJECT), 0, 0),
     }
 }
 
@@ -164,19 +164,24 @@ fn told_row(labels: &[u32], k: usize) -> Reply
     ensures { result ≡ reply (counted 1 k (get_or labels.now (k * 4 + 2) 0) (get_or labels.now (k * 4 + 3) 0)) }
 {
     let i = k * 4;
-    accepted(1, long(k), long32(labels[i + 2]), long32(labels[i + 3]))
+    accepted(
+        1,
+        k as u64,
+        u64::from(labels[i + 2]),
+        u64::from(labels[i + 3]),
+    )
 }
 
 // The answer of looking up an address.
-pub fn told_found(labels: &[u32], found: Found) -> Reply
+pub fn told_found(labels: &[u32], found: Result<Option<usize>, ObjectErr>) -> Reply
     requires { RowIn (length labels.now) found }
     ensures { result ≡ reply (found_told labels.now found) }
 {
     match found {
-        Found::Row(k) => told_row(labels, k),
-        Found::Nothing => accepted(0, 0, 0, 0),
-        Found::ShortBuffer => refused(42, 0, 0),
-        Found::BadObject => refused(43, 0, 0),
+        Ok(Some(k)) => told_row(labels, k),
+        Ok(None) => accepted(0, 0, 0, 0),
+        Err(ObjectErr::ShortBuffer) => refused(u64::from(SHORT_BUFFER), 0, 0),
+        Err(ObjectErr::BadObject) => refused(u64::from(BAD_OBJECT), 0, 0),
     }
 }
 
@@ -185,8 +190,8 @@ fn told_operand(operand: ImmOrReg) -> u64
     ensures { result ≡ operand_told (operand_of operand) }
 {
     match operand {
-        ImmOrReg::Imm(d) => 65536 + long16(d),
-        ImmOrReg::Reg(r) => long16(r),
+        ImmOrReg::Imm(d) => 65536 + u64::from(d),
+        ImmOrReg::Reg(r) => u64::from(r),
     }
 }
 
@@ -194,13 +199,13 @@ fn told_operand(operand: ImmOrReg) -> u64
 fn shown(code: u64, a: u16, b: u16, c: u16) -> Reply
     ensures { result ≡ reply (counted code a b c) }
 {
-    accepted(code, long16(a), long16(b), long16(c))
+    accepted(code, u64::from(a), u64::from(b), u64::from(c))
 }
 
 fn shown_last(code: u64, a: u16, b: u16, c: ImmOrReg) -> Reply
     ensures { result ≡ reply (counted code a b (operand_told (operand_of c))) }
 {
-    accepted(code, long16(a), long16(b), told_operand(c))
+    accepted(code, u64::from(a), u64::from(b), told_operand(c))
 }
 
 fn told_instr(instr: AsmInstr) -> Reply

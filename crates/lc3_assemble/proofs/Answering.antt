@@ -1,5 +1,7 @@
 -- What assembling makes in buffers of full size, and how it is answered when that is stored. Assumes nothing.
 use Prim.Native.Nat.{ℕ}
+use Rattle.std.specs.declared.result.Result.{Result}
+use Rattle.std.specs.declared.result.Result.TheVariants.{Ok, Err}
 use mathlib.Core.Path.{◌≡◌, refl, ◌∙◌, ap}
 use mathlib.Core.Bool.{Bool, true, false}
 use mathlib.Core.List.{List}
@@ -24,16 +26,14 @@ use Rattle.asm.specs.Call as Call
 use Rattle.asm.proofs.Accepting.{accepted-call}
 use Rattle.stored.specs.Call.{MadeStored}
 use Rattle.stored.proofs.Made.{lending, lending-long, Makes, made-whole}
-use Rattle.lc3_assemble.specs.declared.Assembled.{Assembled}
-use Rattle.lc3_assemble.specs.declared.Assembled.TheVariants.{Bytes, Refused}
 use Rattle.lc3_assemble.specs.Assembled.{assemble_stored, refusal_of, coded, object_of, answered, Told}
 
 -- what was written, or a refusal
-pub answer-bytes : (a : Answer) (w : Written) (n : ℕ) → w ≡ W.Bytes n → Bytes n ≡ answered a w
+pub answer-bytes : (a : Answer) (w : Written) (n : ℕ) → w ≡ W.Bytes n → Ok n ≡ answered a w
 answer-bytes a w n e = rw e
 
-pub answer-refused : (a : Answer) (w : Written) (n : ℕ) (r : Answer) → w ≡ W.Refused n → r ≡ refusing n a.start a.end a.start2 a.end2 → Refused r ≡ answered a w
-answer-refused a w n r e f = rw e (ap Refused f)
+pub answer-refused : (a : Answer) (w : Written) (n : ℕ) (r : Answer) → w ≡ W.Refused n → r ≡ refusing n a.start a.end a.start2 a.end2 → Err r ≡ answered a w
+answer-refused a w n r e f = rw e (ap Err f)
 
 module _ (s ws ms : List ℕ) (a : Answer) (b : Buffers) (l : Call.Assembled (lending ws ms) s a b) where
   called_is : Call.called (lending ws ms) s ≡ assemble (lent_words ws ms) s
@@ -57,13 +57,13 @@ module _ (s ws ms : List ℕ) (a : Answer) (b : Buffers) (l : Call.Assembled (le
       }
 
   -- THE ANSWER has the places of the call's, which are none where it accepts
-  accepted-places : (x : Object) (n : ℕ) → Leaves (ok x) (lending ws ms) a b → Refused (refusing n a.start a.end a.start2 a.end2) ≡ Refused (refusing n 0 0 0 0)
+  accepted-places : (x : Object) (n : ℕ) → Leaves (ok x) (lending ws ms) a b → answered a (W.Refused n) ≡ Err (refusing n 0 0 0 0)
   unfolding answer
-  accepted-places x n t = λ i. Refused (refusing n (t.answer i).first.start (t.answer i).first.stop (t.answer i).second.start (t.answer i).second.stop)
+  accepted-places x n t = λ i. Err (refusing n (t.answer i).first.start (t.answer i).first.stop (t.answer i).second.start (t.answer i).second.stop)
 
-  refused-places : (q : Refusal) → Leaves (refused q) (lending ws ms) a b → Refused (refusing q.number a.start a.end a.start2 a.end2) ≡ Refused (refusal_of q)
+  refused-places : (q : Refusal) → Leaves (refused q) (lending ws ms) a b → answered a (W.Refused q.number) ≡ Err (refusal_of q)
   unfolding answer
-  refused-places q t = λ i. Refused (refusing q.number (t.answer i).first.start (t.answer i).first.stop (t.answer i).second.start (t.answer i).second.stop)
+  refused-places q t = λ i. Err (refusing q.number (t.answer i).first.start (t.answer i).first.stop (t.answer i).second.start (t.answer i).second.stop)
 
   module _ (len : ℕ) where
     stored_answer : (x : Object) → Leaves (ok x) (lending ws ms) a b → answered a (Writes.coded (store len x)) ≡ coded (store len x)
@@ -86,7 +86,7 @@ module _ (s ws ms : List ℕ) (a : Answer) (b : Buffers) (l : Call.Assembled (le
     marks-left (ok x) t = ap (λ (d : Buffers). d.marks) t.buffers
     marks-left (refused q) t = ap (λ (d : Buffers). d.marks) t.buffers
 
-    pub stored-told : (w : Written) (bytes : List ℕ) → MadeStored a b len w bytes → (r : Assembled) → r ≡ answered a w → Told s ws ms len r b.words b.marks bytes
+    pub stored-told : (w : Written) (bytes : List ℕ) → MadeStored a b len w bytes → (r : Result ℕ Answer) → r ≡ answered a w → Told s ws ms len r b.words b.marks bytes
     unfolding assemble_stored
     stored-told w bytes m r e =
         let o = assemble (lent_words ws ms) s in

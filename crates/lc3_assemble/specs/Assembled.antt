@@ -1,5 +1,7 @@
 -- A source assembled into stored bytes: what comes of it, and what is left in the lent buffers. Assumes nothing.
 use Rattle.std.specs.Prelude.{ℕ, ◌≡◌, List, length}
+use Rattle.std.specs.declared.result.Result.{Result}
+use Rattle.std.specs.declared.result.Result.TheVariants.{Ok, Err}
 use Rattle.std.proofs.Common.{sym, ◌∙◌}
 use Rattle.rules.specs.Base.{Outcome, ok, refused, Refusal, ◌>>=◌}
 use Rattle.rules.specs.Objects.{Object, nothing}
@@ -11,8 +13,6 @@ use Rattle.object_answer.specs.declared.Answer.{Answer}
 use Rattle.object_answer.specs.declared.Written.{Written}
 use Rattle.object_answer.specs.declared.Written.TheVariants as W
 use Rattle.object_answer.specs.Meant.{refusing}
-use Rattle.lc3_assemble.specs.declared.Assembled.{Assembled}
-use Rattle.lc3_assemble.specs.declared.Assembled.TheVariants.{Bytes, Refused}
 
 -- a source's object, with so many words lent, stored in so many bytes: what assembling refuses, then 51
 unfoldable pub assemble_stored : ℕ → ℕ → List ℕ → Outcome (List ℕ)
@@ -25,9 +25,9 @@ abbrev pub refusal_of : Refusal → Answer
 refusal_of q = refusing q.number q.first.start q.first.stop q.second.start q.second.stop
 
 -- how it is answered: the count of bytes, or the refusal
-abbrev pub coded : Outcome (List ℕ) → Assembled
-coded (ok l) = Bytes (length l)
-coded (refused q) = Refused (refusal_of q)
+abbrev pub coded : Outcome (List ℕ) → Result ℕ Answer
+coded (ok l) = Ok (length l)
+coded (refused q) = Err (refusal_of q)
 
 -- what stands in the lent words and marks: those of the object; zeros after a refusal
 abbrev pub object_of : Outcome Object → Object
@@ -35,14 +35,14 @@ object_of (ok o) = o
 object_of (refused q) = nothing
 
 -- the answer r of a source s, with the lent words, marks and bytes afterwards; before, they were ws and ms and len bytes
-pub record Told (s ws ms : List ℕ) (len : ℕ) (r : Assembled) (words marks bytes : List ℕ) : Type 0 where
+pub record Told (s ws ms : List ℕ) (len : ℕ) (r : Result ℕ Answer) (words marks bytes : List ℕ) : Type 0 where
   pub answer : r ≡ coded (assemble_stored (lent_words ws ms) len s)
   pub holds : bytes ≡ left_bytes (assemble_stored (lent_words ws ms) len s) len
   pub left_words : words ≡ lay_words (object_of (assemble (lent_words ws ms) s)) (length ws)
   pub left_marks : marks ≡ lay_marks (object_of (assemble (lent_words ws ms) s)) (length ms)
 
 -- TWO ANSWERS THAT IT ALLOWS ARE EQUAL, and so are the bytes
-module _ {s ws ms : List ℕ} {len : ℕ} {r t : Assembled} {w v m n b c : List ℕ} (p : Told s ws ms len r w m b) (q : Told s ws ms len t v n c) where
+module _ {s ws ms : List ℕ} {len : ℕ} {r t : Result ℕ Answer} {w v m n b c : List ℕ} (p : Told s ws ms len r w m b) (q : Told s ws ms len t v n c) where
   pub one_answer : r ≡ t
   one_answer = p.answer ∙ sym q.answer
 
@@ -50,6 +50,6 @@ module _ {s ws ms : List ℕ} {len : ℕ} {r t : Assembled} {w v m n b c : List 
   one_bytes = p.holds ∙ sym q.holds
 
 -- INNER FUNCTIONS: what was written, or the refusal at the places of the call's answer
-abbrev pub answered : Answer → Written → Assembled
-answered a (W.Bytes n) = Bytes n
-answered a (W.Refused n) = Refused (refusing n a.start a.end a.start2 a.end2)
+abbrev pub answered : Answer → Written → Result ℕ Answer
+answered a (W.Bytes n) = Ok n
+answered a (W.Refused n) = Err (refusing n a.start a.end a.start2 a.end2)

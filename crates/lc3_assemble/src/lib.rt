@@ -6,20 +6,13 @@ ghost use Rattle.lc3_assemble.specs.Assembled.{answered, Told};
 
 use object_answer::{Answer, Written};
 
-// What becomes of a source: so many stored bytes, or the answer of a refusal.
-#[derive(Clone, Copy)]
-pub enum Assembled {
-    Bytes(usize),
-    Refused(Answer),
-}
-
-// What was stored, or the refusal at its places; 51 has none.
-fn answer_of(answer: Answer, written: Written) -> Assembled
+// So many stored bytes, or the answer of the refusal at its places; 51 has none.
+fn answer_of(answer: Answer, written: Written) -> Result<usize, Answer>
     ensures { result ≡ answered answer written }
 {
     match written {
-        Written::Bytes(size) => Assembled::Bytes(size),
-        Written::Refused(number) => Assembled::Refused(object_answer::refusal(
+        Written::Bytes(size) => Ok(size),
+        Written::Refused(number) => Err(object_answer::refusal(
             number,
             answer.start,
             answer.end,
@@ -35,7 +28,7 @@ pub fn assemble_stored(
     words: &mut [u16],
     marks: &mut [u8],
     bytes: &mut [u8],
-) -> Assembled
+) -> Result<usize, Answer>
     ensures { Told src.now words.old marks.old (length bytes.old) result words.new marks.new bytes.new }
 {
     let mut blocks = [0u16; object::BLOCK_ROOM];

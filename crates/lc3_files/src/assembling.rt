@@ -2,8 +2,7 @@
 use crate::telling;
 use base_capacities::{SOURCE_BYTES, WORDS};
 use base_refusals::SOURCE_TOO_LONG;
-use lc3_assemble::Assembled;
-use lc3_input::{Input, STDERR_FILENO, front};
+use lc3_input::{InputErr, STDERR_FILENO, front};
 use stored::STORED_BYTES;
 
 // A source, with these buffers.
@@ -15,8 +14,8 @@ fn assemble_with(
     bytes: &mut [u8; STORED_BYTES],
 ) -> u8 {
     match lc3_assemble::assemble_stored(src, words, marks, bytes) {
-        Assembled::Bytes(n) => telling::write_out(front(bytes, n), telling::ACCEPTED),
-        Assembled::Refused(answer) => telling::tell_refusal(STDERR_FILENO, path, src, answer),
+        Ok(n) => telling::write_out(front(bytes, n), telling::ACCEPTED),
+        Err(answer) => telling::tell_refusal(STDERR_FILENO, path, src, answer),
     }
 }
 
@@ -31,9 +30,9 @@ fn assemble_source(path: &[u8], src: &[u8]) -> u8 {
 // A file, read into this buffer.
 fn assemble_read(rt: &HostRuntime, path: &[u8], source: &mut [u8; SOURCE_BYTES]) -> u8 {
     match lc3_input::read_file(rt, path, source) {
-        Input::Whole(n) => assemble_source(path, front(source, n)),
-        Input::Longer => telling::tell_placeless(STDERR_FILENO, path, SOURCE_TOO_LONG),
-        Input::Failed => telling::tell_unread(path),
+        Ok(n) => assemble_source(path, front(source, n)),
+        Err(InputErr::Longer) => telling::tell_placeless(STDERR_FILENO, path, SOURCE_TOO_LONG),
+        Err(InputErr::Failed) => telling::tell_unread(path),
     }
 }
 

@@ -1,5 +1,5 @@
 // Checking files: whether each is the stored form of an object, and what the object has.
-use crate::named::{FILE_BYTES, Held, PATH_BYTES};
+use crate::named::{FILE_BYTES, PATH_BYTES};
 use crate::{named, telling};
 use lc3_input::{STDERR_FILENO, STDOUT_FILENO, front};
 use object_answer::{Answer, counts_of};
@@ -32,8 +32,8 @@ fn check_bytes(path: &[u8], bytes: &[u8], silent: bool) -> u8 {
 // A file, read into this buffer.
 fn check_read(rt: &HostRuntime, path: &[u8], bytes: &mut [u8; FILE_BYTES], silent: bool) -> u8 {
     match named::read_stored(rt, path, bytes) {
-        Held::Bytes(n) => check_bytes(path, front(bytes, n), silent),
-        Held::Unread => telling::FAILED,
+        Some(n) => check_bytes(path, front(bytes, n), silent),
+        None => telling::FAILED,
     }
 }
 
@@ -53,10 +53,9 @@ pub fn check_argument(rt: &HostRuntime, i: usize, silent: bool) -> u8 {
 // The files of the arguments from one up to another: the worst answer.
 pub fn check_all(rt: &HostRuntime, first: usize, end: usize, silent: bool) -> u8 {
     let mut worst = telling::ACCEPTED;
-    let mut i = first;
-    while i < end {
-        worst = telling::worse(worst, check_argument(rt, i, silent));
-        i += 1;
+    for i in first..end {
+        // The worse of two answers is the greater byte.
+        worst = worst.max(check_argument(rt, i, silent));
     }
     worst
 }

@@ -1,9 +1,8 @@
 // Explaining for a person: a source assembled or a stored object loaded, and each word of it shown, or its refusal, on standard output.
-use crate::named::{FILE_BYTES, Held};
+use crate::named::FILE_BYTES;
 use crate::{named, telling};
 use base_refusals::SOURCE_TOO_LONG;
-use lc3_assemble::Assembled;
-use lc3_input::{Input, STDOUT_FILENO, front};
+use lc3_input::{InputErr, STDOUT_FILENO, front};
 use list_print::{SOURCE_BYTES, WORDS};
 use object::Counts;
 use object_answer::counts_of;
@@ -37,10 +36,8 @@ fn show_object(
     names: &[u8],
 ) -> u8 {
     let mut text = [0u8; PIECE_BYTES];
-    let n = view_object::pieces(c);
-    let mut p = 0;
-    while p < n {
-        if show_piece(
+    for p in 0..view_object::pieces(c) {
+        if !show_piece(
             c,
             blocks,
             words,
@@ -51,8 +48,6 @@ fn show_object(
             p,
             &mut text,
         ) {
-            p += 1;
-        } else {
             return telling::FAILED;
         }
     }
@@ -99,8 +94,8 @@ fn show_with(
     bytes: &mut [u8; STORED_BYTES],
 ) -> u8 {
     match lc3_assemble::assemble_stored(src, words, marks, bytes) {
-        Assembled::Bytes(n) => show_stored(path, front(bytes, n)),
-        Assembled::Refused(answer) => telling::tell_refusal(STDOUT_FILENO, path, src, answer),
+        Ok(n) => show_stored(path, front(bytes, n)),
+        Err(answer) => telling::tell_refusal(STDOUT_FILENO, path, src, answer),
     }
 }
 
@@ -115,9 +110,9 @@ fn show_source(path: &[u8], src: &[u8]) -> u8 {
 // A file of source, read into this buffer.
 fn source_read(rt: &HostRuntime, path: &[u8], source: &mut [u8; SOURCE_BYTES]) -> u8 {
     match lc3_input::read_file(rt, path, source) {
-        Input::Whole(n) => show_source(path, front(source, n)),
-        Input::Longer => telling::tell_placeless(STDOUT_FILENO, path, SOURCE_TOO_LONG),
-        Input::Failed => telling::tell_unread(path),
+        Ok(n) => show_source(path, front(source, n)),
+        Err(InputErr::Longer) => telling::tell_placeless(STDOUT_FILENO, path, SOURCE_TOO_LONG),
+        Err(InputErr::Failed) => telling::tell_unread(path),
     }
 }
 
@@ -130,8 +125,8 @@ pub fn explain_source(rt: &HostRuntime, path: &[u8]) -> u8 {
 // A file of a stored object, read into this buffer.
 fn object_read(rt: &HostRuntime, path: &[u8], bytes: &mut [u8; FILE_BYTES]) -> u8 {
     match named::read_stored(rt, path, bytes) {
-        Held::Bytes(n) => show_stored(path, front(bytes, n)),
-        Held::Unread => telling::FAILED,
+        Some(n) => show_stored(path, front(bytes, n)),
+        None => telling::FAILED,
     }
 }
 

@@ -1,19 +1,11 @@
 // Linking files: the stored objects that a list of arguments names, linked one after another; the result goes to standard output as stored bytes. Where they cannot be linked, the two files
 // that stand in each other's way are named.
-use crate::named::{FILE_BYTES, Held, PATH_BYTES};
+use crate::named::{FILE_BYTES, PATH_BYTES};
 use crate::{checking, named, telling};
 use base_capacities::NAME_BYTES;
 use lc3_input::{STDERR_FILENO, front};
 use lc3_link::Linked;
-use std::num::wrapping_add_usize;
 use view_text::put;
-
-// What the next file of a list gives: the size of the result up to it, or the answer.
-#[derive(Clone, Copy)]
-enum Step {
-    Size(usize),
-    Stop(u8),
-}
 
 // Room for the names of two files.
 const PAIR_BYTES: usize = 2 * PATH_BYTES + 8;
@@ -28,8 +20,8 @@ fn link_read(
     name: &mut [u8],
 ) -> Linked {
     match named::read_stored(rt, path, second) {
-        Held::Bytes(k) => lc3_link::link_stored(bytes, size, front(second, k), name),
-        Held::Unread => Linked {
+        Some(k) => lc3_link::link_stored(bytes, size, front(second, k), name),
+        None => Linked {
             number: base_refusals::BAD_FIELD,
             size: 0,
             named: 0,
@@ -62,14 +54,11 @@ fn link_argument(
     link_file(rt, bytes, size, &path[..n], name)
 }
 
-// The size of the stored object of an argument, read to the front of the bytes.
-fn read_argument(rt: &HostRuntime, bytes: &mut [u8], i: usize) -> Step {
+// The size of the stored object of an argument, read to the front of the bytes; the answer of one that cannot be read.
+fn read_argument(rt: &HostRuntime, bytes: &mut [u8], i: usize) -> Result<usize, u8> {
     let mut path = [0u8; PATH_BYTES];
     let n = named::argument(rt, i, &mut path);
-    match named::read_stored(rt, &path[..n], bytes) {
-        Held::Bytes(size) => Step::Size(size),
-        Held::Unread => Step::Stop(telling::FAILED),
-    }
+    named::read_stored(rt, &path[..n], bytes).ok_or(telling::FAILED)
 }
 
 // Tells that two files cannot be linked, and the name that stands in the way, if it is a name.
@@ -102,7 +91,7 @@ fn blame_with(
 ) -> bool {
     let mut name = [0u8; NAME_BYTES];
     match read_argument(rt, bytes, j) {
-        Step::Size(size) => {
+        Ok(size) => {
             let linked = link_argument(rt, bytes, size, i, &mut name);
             if linked.number == number {
                 tell_pair(rt, j, i, number, front(&name, linked.named));
@@ -110,7 +99,7 @@ fn blame_with(
             }
             false
         }
-        Step::Stop(_) => false,
+        Err(_) => false,
     }
 }
 
@@ -121,39 +110,37 @@ fn blame_pair(rt: &HostRuntime, j: usize, i: usize, number: u16) -> bool {
 
 // Tells why the file of an argument cannot be linked to those before it: which of them stands in its way; 40 and 41 are of all together.
 fn blame(rt: &HostRuntime, first: usize, i: usize, number: u16) -> u8 {
-    let mut j = first;
-    while j < i {
+    for j in first..i {
         if blame_pair(rt, j, i, number) {
             return telling::REFUSED;
         }
-        j += 1;
     }
     telling::tell_placeless(STDERR_FILENO, b"the files together", number)
 }
 
-// The file of an argument linked to those before it, whose link stands at the front of the bytes.
-fn link_next(rt: &HostRuntime, bytes: &mut [u8], size: usize, first: usize, i: usize) -> Step {
+// The file of an argument linked to those before it, whose link stands at the front of the bytes: the size of the result, or the answer that this is refused.
+fn link_next(
+    rt: &HostRuntime,
+    bytes: &mut [u8],
+    size: usize,
+    first: usize,
+    i: usize,
+) -> Result<usize, u8> {
     let mut name = [0u8; NAME_BYTES];
     let linked = link_argument(rt, bytes, size, i, &mut name);
     if linked.number == 0 {
-        return Step::Size(linked.size);
+        return Ok(linked.size);
     }
-    Step::Stop(blame(rt, first, i, linked.number))
+    Err(blame(rt, first, i, linked.number))
 }
 
 // The rest of a list, linked to its first file; the result goes to standard output.
 fn link_rest(rt: &HostRuntime, bytes: &mut [u8], start: usize, first: usize, end: usize) -> u8 {
     let mut size = start;
-    let mut i = wrapping_add_usize(first, 1);
-    while i < end {
+    for i in first.saturating_add(1)..end {
         match link_next(rt, bytes, size, first, i) {
-            Step::Size(n) => {
-                size = n;
-                i += 1;
-            }
-            Step::Stop(status) => {
-                return status;
-            }
+            Ok(n) => size = n,
+            Err(status) => return status,
         }
     }
     telling::write_out(front(bytes, size), telling::ACCEPTED)
@@ -162,8 +149,8 @@ fn link_rest(rt: &HostRuntime, bytes: &mut [u8], start: usize, first: usize, end
 // The files of the arguments from one up to another, linked in this buffer.
 fn link_with(rt: &HostRuntime, bytes: &mut [u8; FILE_BYTES], first: usize, end: usize) -> u8 {
     match read_argument(rt, bytes, first) {
-        Step::Size(size) => link_rest(rt, bytes, size, first, end),
-        Step::Stop(status) => status,
+        Ok(size) => link_rest(rt, bytes, size, first, end),
+        Err(status) => status,
     }
 }
 

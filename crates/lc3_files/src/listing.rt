@@ -1,5 +1,5 @@
 // Listing a stored object on standard output, as the listing program lists a source.
-use crate::named::{FILE_BYTES, Held};
+use crate::named::FILE_BYTES;
 use crate::{named, telling};
 use lc3_input::front;
 use list_print::LISTING_BYTES;
@@ -20,8 +20,8 @@ fn list_bytes(bytes: &[u8]) -> u8 {
 // A file, read into this buffer.
 fn list_read(rt: &HostRuntime, path: &[u8], bytes: &mut [u8; FILE_BYTES]) -> u8 {
     match named::read_stored(rt, path, bytes) {
-        Held::Bytes(n) => list_bytes(front(bytes, n)),
-        Held::Unread => telling::FAILED,
+        Some(n) => list_bytes(front(bytes, n)),
+        None => telling::FAILED,
     }
 }
 

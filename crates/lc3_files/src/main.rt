@@ -10,8 +10,8 @@ mod listing;
 mod named;
 mod telling;
 
-use base_text::Order;
 use named::PATH_BYTES;
+use std::cmp::Ordering;
 
 // How long the word is at most that says what is to be done.
 const WORD_BYTES: usize = 32;
@@ -23,9 +23,9 @@ const FIRST_FILE: usize = 2;
 
 fn is(word: &[u8], other: &[u8]) -> bool {
     match base_text::compare_bytes(word, other) {
-        Order::Same => true,
-        Order::Less => false,
-        Order::Greater => false,
+        Ordering::Equal => true,
+        Ordering::Less => false,
+        Ordering::Greater => false,
     }
 }
 
@@ -56,10 +56,9 @@ fn run_on_argument(rt: &HostRuntime, word: &[u8], i: usize) -> u8 {
 // The files that the arguments up to the last name: the worst answer.
 fn run_on_all(rt: &HostRuntime, word: &[u8], end: usize) -> u8 {
     let mut worst = telling::ACCEPTED;
-    let mut i = FIRST_FILE;
-    while i < end {
-        worst = telling::worse(worst, run_on_argument(rt, word, i));
-        i += 1;
+    for i in FIRST_FILE..end {
+        // The worse of two answers is the greater byte.
+        worst = worst.max(run_on_argument(rt, word, i));
     }
     worst
 }

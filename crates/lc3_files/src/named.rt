@@ -1,7 +1,7 @@
 // The files that arguments name: their names, and the stored bytes that they hold.
 ghost use Rattle.io.specs.Counts.{IsPrefixLen};
 
-use lc3_input::Input;
+use lc3_input::InputErr;
 use std::env::{Env, FillError};
 use stored::STORED_BYTES;
 
@@ -11,21 +11,14 @@ pub const PATH_BYTES: usize = 4096;
 // Room for a stored file: one byte more than any object takes, so that a longer file is refused as its front is.
 pub const FILE_BYTES: usize = STORED_BYTES + 1;
 
-// What a file of stored bytes is: so many bytes at the front of the buffer, or not to be read.
-#[derive(Clone, Copy)]
-pub enum Held {
-    Bytes(usize),
-    Unread,
-}
-
-// The file's bytes into a buffer; of a longer file as many as there is room for.
-pub fn read_stored(rt: &HostRuntime, path: &[u8], bytes: &mut [u8]) -> Held {
+// The file's bytes into a buffer, and how many they are: of a longer file as many as there is room for, and none of one that cannot be read.
+pub fn read_stored(rt: &HostRuntime, path: &[u8], bytes: &mut [u8]) -> Option<usize> {
     match lc3_input::read_file(rt, path, bytes) {
-        Input::Whole(n) => Held::Bytes(n),
-        Input::Longer => Held::Bytes(bytes.len()),
-        Input::Failed => {
+        Ok(n) => Some(n),
+        Err(InputErr::Longer) => Some(bytes.len()),
+        Err(InputErr::Failed) => {
             crate::telling::tell_unread(path);
-            Held::Unread
+            None
         }
     }
 }

@@ -6,14 +6,6 @@ use object_answer::Answer;
 // Room for what is told of a refusal: two places, each after a file's name.
 const TEXT_BYTES: usize = 16384;
 
-// The worse of two answers.
-pub fn worse(a: u8, b: u8) -> u8 {
-    if a < b {
-        return b;
-    }
-    a
-}
-
 // Tells the answer.
 pub fn tell_status(status: u8) {
     io::write_all(lc3_input::STATUS_FILENO, &[status]);

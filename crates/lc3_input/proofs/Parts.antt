@@ -1,20 +1,15 @@
 -- The first n bytes of a buffer; the byte of an answer. Assumes nothing.
-use Prim.Native.Nat.{ℕ, ◌-◌, ◌≤◌, ◌<◌}
-use mathlib.Core.Path.{◌≡◌, refl, sym}
+use Prim.Native.Nat.{ℕ, min}
+use mathlib.Core.Path.{◌≡◌, refl}
 use mathlib.Core.Bool.{Bool, true, false}
 use mathlib.Core.List.{List}
-use native.Mathlib.Omega.{arith}
 use lib.ListN.{length, take}
-use lib.Seq.{take_all}
+use Rattle.std.proofs.lemmas.List.{take_min}
 use Rattle.lc3_input.specs.Held.{first_of, status_of}
 
-pub front-part : (n : ℕ) (b : List ℕ) → take (n - 0) b ≡ first_of n b
+pub front-part : (n : ℕ) (b : List ℕ) {m : ℕ} → m ≡ min n (length b) → take m b ≡ first_of n b
 unfolding first_of
-front-part n b = let e : n - 0 ≡ n = omega arith in rw e
-
-pub front-all : (n : ℕ) (b : List ℕ) → length b < n → b ≡ first_of n b
-unfolding first_of
-front-all n b h = let k : length b ≤ n = omega arith in sym (take_all n b k)
+front-part n b e = rw e (take_min n b)
 
 pub told-accepted : (b : Bool) → b ≡ true → 48 ≡ status_of b
 unfolding status_of

@@ -1,14 +1,14 @@
 -- What was read lies in the buffer; a part of it; the byte that tells an answer. Assumes nothing.
 use Rattle.std.specs.Prelude.{Bool, true, false, List, ℕ, take}
 use Rattle.io.specs.Counts.{IsPrefixLen}
-use Rattle.lc3_input.specs.declared.Input.{Input}
-use Rattle.lc3_input.specs.declared.Input.TheVariants.{Whole, Longer, Failed}
+use Rattle.lc3_input.specs.declared.InputErr.{InputErr}
+use Rattle.std.specs.declared.result.Result.{Result}
+use Rattle.std.specs.declared.result.Result.TheVariants.{Ok, Err}
 
 -- at the front of it
-abbrev pub Held : List ℕ → Input → Type 0
-Held buffer (Whole n) = IsPrefixLen n buffer
-Held buffer Longer = Unit {0}
-Held buffer Failed = Unit {0}
+abbrev pub Held : List ℕ → Result ℕ InputErr → Type 0
+Held buffer (Ok n) = IsPrefixLen n buffer
+Held buffer (Err e) = Unit {0}
 
 -- the first n bytes, as far as they are there
 unfoldable pub first_of : ℕ → List ℕ → List ℕ

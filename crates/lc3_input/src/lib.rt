@@ -7,12 +7,11 @@ ghost use Rattle.io.specs.Counts.{IsPrefixLen};
 ghost use Rattle.lc3_input.specs.Held.{Held, first_of, status_of};
 
 use std::fs::{File, Files};
-use std::io::{Eprint, Error, Input as StandardInput, Read};
+use std::io::{Eprint, Error, Input, Read};
 
-// What an input was: all of it, so many bytes at the front of the buffer; longer than the buffer; or not to be read to its end.
+// Why an input is not there whole: it is longer than the buffer, or it could not be read to its end.
 #[derive(Clone, Copy)]
-pub enum Input {
-    Whole(usize),
+pub enum InputErr {
     Longer,
     Failed,
 }
@@ -47,6 +46,7 @@ pub fn fill<R: Read>(file: &mut R, buffer: &mut [u8]) -> usize
     ensures { IsPrefixLen result buffer.new }
 {
     let mut done = 0;
+    // A while: each read says how much it put there.
     while done < buffer.len() {
         match file.read(&mut buffer[done..]) {
             Ok(n) => {
@@ -63,8 +63,8 @@ pub fn fill<R: Read>(file: &mut R, buffer: &mut [u8]) -> usize
     done
 }
 
-// An open file to its end. After what was read one more byte is asked for: there is none at the end of the input, one where it is longer than the buffer, and an error where reading failed.
-pub fn read_input<R: Read>(file: &mut R, buffer: &mut [u8]) -> Input
+// An open file to its end: how many bytes it put at the front of the buffer. After what was read one more byte is asked for: there is none at the end of the input, one where it is longer than the buffer, and an error where reading failed.
+pub fn read_input<R: Read>(file: &mut R, buffer: &mut [u8]) -> Result<usize, InputErr>
     ensures { Held buffer.new result }
 {
     let size = fill(file, buffer);
@@ -72,38 +72,40 @@ pub fn read_input<R: Read>(file: &mut R, buffer: &mut [u8]) -> Input
     match file.read(&mut more) {
         Ok(next) => {
             if next == 0 {
-                return Input::Whole(size);
+                return Ok(size);
             }
             if size == buffer.len() {
-                return Input::Longer;
+                return Err(InputErr::Longer);
             }
-            Input::Failed
+            Err(InputErr::Failed)
         }
-        Err(_) => Input::Failed,
+        Err(_) => Err(InputErr::Failed),
     }
 }
 
 // A file by its name, which is UTF-8; any other names no file that can be read. `-` is standard input.
-pub fn read_file<R: Files + StandardInput>(rt: &R, path: &[u8], buffer: &mut [u8]) -> Input
+pub fn read_file<R: Files + Input>(
+    rt: &R,
+    path: &[u8],
+    buffer: &mut [u8],
+) -> Result<usize, InputErr>
     ensures { Held buffer.new result }
 {
-    if path.len() == 1 {
-        if path[0] == b'-' {
-            return read_input(&mut rt.reader(), buffer);
-        }
+    if path == b"-".as_slice() {
+        return read_input(&mut rt.reader(), buffer);
     }
     match str::from_utf8(path) {
         Ok(name) => read_named(rt, name, buffer),
-        Err(_) => Input::Failed,
+        Err(_) => Err(InputErr::Failed),
     }
 }
 
-fn read_named<R: Files>(rt: &R, name: &str, buffer: &mut [u8]) -> Input
+fn read_named<R: Files>(rt: &R, name: &str, buffer: &mut [u8]) -> Result<usize, InputErr>
     ensures { Held buffer.new result }
 {
     match File::open(rt, name) {
         Ok(mut file) => read_input(&mut file, buffer),
-        Err(_) => Input::Failed,
+        Err(_) => Err(InputErr::Failed),
     }
 }
 
@@ -116,8 +118,5 @@ pub fn tell_unopened<R: Eprint>(rt: &R, path: &str, error: Error) {
 pub fn front(buffer: &[u8], n: usize) -> &[u8]
     ensures { result.now ≡ first_of n buffer.now }
 {
-    if n <= buffer.len() {
-        return &buffer[0..n];
-    }
-    buffer
+    &buffer[..n.min(buffer.len())]
 }

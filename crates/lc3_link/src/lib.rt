@@ -169,7 +169,7 @@ fn link_second(
             name,
         );
     }
-    base_buffers::zero_u8(bytes);
+    base_buffers::clear(bytes, 0);
     answer_of(Written::Refused(loaded.number), 0)
 }
 
@@ -207,6 +207,6 @@ pub fn link_stored(bytes: &mut [u8], size: usize, second: &[u8], name: &mut [u8]
             name,
         );
     }
-    base_buffers::zero_u8(bytes);
+    base_buffers::clear(bytes, 0);
     answer_of(Written::Refused(answer.number), 0)
 }

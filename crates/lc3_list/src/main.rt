@@ -3,9 +3,9 @@
 
 ghost use Rattle.std.specs.Prelude.{◌≡◌, true, ◌≤◌, length};
 
-use lc3_input::{Input, STATUS_FILENO, STDERR_FILENO, STDOUT_FILENO};
+use lc3_input::{InputErr, STATUS_FILENO, STDERR_FILENO, STDOUT_FILENO};
 use list_print::{LISTING_BYTES, SOURCE_BYTES};
-use std::io::Input as StandardInput;
+use std::io::Input;
 
 // The first n bytes of a text on standard output; whether all were written.
 fn print_front(text: &[u8], n: usize) -> bool
@@ -59,9 +59,9 @@ fn print_longer(src: &[u8]) {
 // Reads standard input and lists it.
 fn list_input(rt: &HostRuntime, source: &mut [u8]) {
     match lc3_input::read_input(&mut rt.reader(), source) {
-        Input::Whole(size) => print_whole(lc3_input::front(source, size)),
-        Input::Longer => print_longer(source),
-        Input::Failed => {
+        Ok(size) => print_whole(lc3_input::front(source, size)),
+        Err(InputErr::Longer) => print_longer(source),
+        Err(InputErr::Failed) => {
             io::write_all(STDERR_FILENO, b"lc3: standard input cannot be read\n");
         }
     }

@@ -34,7 +34,7 @@ fn lex_word(src: &[u8], start: usize) -> Lexeme
     let end = base_text::run_end(src, start, Class::Word);
     let ident = lex_reserved::ident_of(&src[start..end]);
     match ident {
-        Ident::Reserved(code) => flat(RESERVED, code as u16, start, end),
+        Ident::Reserved(code) => flat(RESERVED, u16::from(code), start, end),
         Ident::Label => flat(LABEL, 0, start, end),
     }
 }
@@ -70,7 +70,7 @@ fn lex_r(src: &[u8], start: usize) -> Lexeme
     let next = start + 1;
     let number = short_register(src, next);
     if number < NO_REGISTER {
-        return flat(REGISTER, number as u16, start, start + 2);
+        return flat(REGISTER, u16::from(number), start, start + 2);
     }
     let end = base_text::run_end(src, next, Class::Digit);
     if end <= next {

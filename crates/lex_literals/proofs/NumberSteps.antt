@@ -1,6 +1,6 @@
 -- A number's reading, one character on, as the loop meets it. Assumes nothing.
 use Prim.Native.Nat.{ℕ, ◌+◌, ◌*◌, ◌<◌, ◌≤◌}
-use mathlib.Core.Path.{◌≡◌, sym, ◌∙◌}
+use mathlib.Core.Path.{◌≡◌, ap, sym, ◌∙◌}
 use mathlib.Core.Bool.{Bool, true, false, ◌&&◌}
 use mathlib.Core.List.{List}
 use native.Mathlib.Nat.{mul-le-mul}
@@ -48,6 +48,6 @@ module _ (base bound at n : ℕ) (s : List ℕ) {i v : ℕ} {z : Reading} (h : i
         let k : ltb bound (n * base + v) ≡ false = rw (lt-ltb _ _ b) at (sym o ∙ q) in
         omega (arith, ltb-false bound (n * base + v) k)
 
-pub number-done : (base bound at n : ℕ) (s : List ℕ) {i : ℕ} {r z : Reading} → length s ≤ i → number_from base bound at i n (from s i) ≡ z → r ≡ stopped at i n → r ≡ z
+pub number-done : (base bound at n : ℕ) (s : List ℕ) {i m : ℕ} {r z : Reading} → length s ≤ i → i ≡ m → number_from base bound at i n (from s i) ≡ z → r ≡ stopped at m n → r ≡ z
 unfolding number_from
-number-done base bound at n s {i} h g r = r ∙ sym (rw (from_end s i h)) ∙ g
+number-done base bound at n s {i} {m} h e g r = r ∙ (sym (ap (λ (k : ℕ). stopped at k n) e) ∙ (sym (rw (from_end s i h)) ∙ g))

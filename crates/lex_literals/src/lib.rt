@@ -47,10 +47,9 @@ pub fn read_number(src: &[u8], at: usize, base: u32, bound: u32) -> Reading
     ensures { result ≡ number_from base bound at at 0 (from src.now at) }
 {
     let mut value: u32 = 0;
-    let mut i = at;
-    while i < src.len() {
+    for i in at..src.len() {
         let b = src[i];
-        let v = base_text::digit_value(b) as u32;
+        let v = u32::from(base_text::digit_value(b));
         let more = value * base + v;
         if overflows(v, base, bound, more) {
             return Reading::Over(i);
@@ -62,9 +61,8 @@ pub fn read_number(src: &[u8], at: usize, base: u32, bound: u32) -> Reading
             return number_ends(at, i, value);
         }
         value = more;
-        i += 1;
     }
-    number_ends(at, i, value)
+    number_ends(at, at.max(src.len()), value)
 }
 
 // What reading a string after its quote finds.
@@ -162,6 +160,7 @@ pub fn scan_string(src: &[u8], at: usize) -> Scanned
 {
     let mut count: usize = 0;
     let mut i = at;
+    // A loop: what stands where a run ends says where to go on.
     loop {
         let stop = base_runs::plain_end(src, i);
         count += stop - i;

@@ -9,9 +9,8 @@ ghost use Rattle.lex_reserved.specs.Ident.{ident_of};
 ghost use Rattle.lex_reserved.specs.Table.{words, row, first_row, name_of, find_in};
 ghost use Rattle.lex_reserved.specs.Slots.{key_of, key_bound, slot_of, slot_row};
 
-use base_casts::{long8, wide8};
-
 // What a word is: reserved, with the code of its instruction, or a label. The codes count the instructions from 0 in the order of lex.rs.
+// No Option: the Rust's enum of this name tells both by name.
 #[derive(Clone, Copy)]
 pub enum Ident {
     Reserved(u8),
@@ -90,8 +89,8 @@ fn first_row(letter: u8) -> usize
     requires { (65 ≤ letter) × (letter ≤ 91) }
     ensures { result ≡ first_row letter }
 {
-    let k = wide8(letter - b'A');
-    wide8(STARTS[k])
+    let k = usize::from(letter - b'A');
+    usize::from(STARTS[k])
 }
 
 // Whether s is in upper case the word of row i.
@@ -99,19 +98,16 @@ fn row_is(table: &[[u8; ROW_CELLS]; ROWS], i: usize, s: &[u8]) -> bool
     requires { (table.now ≡ words) × (i < 32) }
     ensures { result ≡ same (map upper s.now) (name_of (row i)) }
 {
-    let n = wide8(cell(table, i, LENGTH));
-    if n == s.len() {
-        let mut j = 0;
-        while j < n {
-            if base_text::upper_case(s[j]) == cell(table, i, j) {
-                j += 1;
-            } else {
-                return false;
-            }
-        }
-        return true;
+    let n = usize::from(cell(table, i, LENGTH));
+    if n != s.len() {
+        return false;
     }
-    false
+    for j in 0..n {
+        if base_text::upper_case(s[j]) != cell(table, i, j) {
+            return false;
+        }
+    }
+    true
 }
 
 // The code of the word that s is among the rows from first up to last.
@@ -119,12 +115,10 @@ fn find_row(table: &[[u8; ROW_CELLS]; ROWS], s: &[u8], first: usize, last: usize
     requires { (table.now ≡ words) × (first ≤ last) × (last ≤ 32) }
     ensures { result ≡ find_in (last - first) first (map upper s.now) }
 {
-    let mut i = first;
-    while i < last {
+    for i in first..last {
         if row_is(table, i, s) {
             return Ident::Reserved(cell(table, i, CODE));
         }
-        i += 1;
     }
     Ident::Label
 }
@@ -167,7 +161,7 @@ fn key_from(s: &[u8], i: usize, above: u64) -> u64
     ensures { (result ≡ key_of (map upper (from s.now i))) × (result < above * 256 + 256) }
 {
     if i < s.len() {
-        return above * BYTE + long8(base_text::upper_case(s[i]));
+        return above * BYTE + u64::from(base_text::upper_case(s[i]));
     }
     above
 }

@@ -1,4 +1,8 @@
 -- Two answers that a contract of the lexer's crates allows are equal, a theorem to a public function. Assumes nothing.
+use Rattle.std.specs.declared.result.Result.{Result}
+use Rattle.std.specs.declared.result.Result.TheVariants.{Ok, Err}
+use Rattle.base_refusals.specs.declared.Fault.{Fault}
+use Rattle.base_refusals.specs.Refusals.{fault}
 use Prim.Native.Nat.{ℕ}
 use mathlib.Core.Path.{◌≡◌, refl, sym, ◌∙◌, ap}
 use mathlib.Core.Bool.{Bool, false}
@@ -10,7 +14,7 @@ use Rattle.rules.proofs.Bools.{never}
 use Rattle.base_text.specs.Runs.{in_class, from, run_end}
 use Rattle.base_text.specs.Names.{ordered}
 use Rattle.base_text.specs.declared.Class.{Class}
-use Rattle.base_text.specs.declared.Order.{Order}
+use Rattle.std.specs.declared.cmp.Ordering.{Ordering}
 use Rattle.lex_reserved.specs.Ident.{ident_of}
 use Rattle.lex_reserved.specs.declared.Ident.{Ident}
 use Rattle.lex_literals.specs.Numbers.{number_from}
@@ -23,8 +27,6 @@ use Rattle.lex_token.specs.Coded as Coded
 use Rattle.lex_token.specs.declared.Next.{Next}
 use Rattle.lex.specs.Label.{label_text}
 use Rattle.lex_source.specs.Lexed.{meant_lexed}
-use Rattle.lex_source.specs.declared.Lexed.{Lexed}
-use Rattle.lex_source.specs.declared.Lexed.TheVariants.{Clean, Fault}
 
 -- an equation determines its answer
 one : {A : Type 0} {x r r' : A} → r ≡ x → r' ≡ x → r ≡ r'
@@ -64,10 +66,10 @@ module _ (a b : List ℕ) where
   pub same-name-one : {r r' : Bool} → r ≡ same (map upper a) (map upper b) → r' ≡ same (map upper a) (map upper b) → r ≡ r'
   same-name-one = one
 
-  pub compare-names-one : {r r' : Order} → r ≡ ordered (map upper a) (map upper b) → r' ≡ ordered (map upper a) (map upper b) → r ≡ r'
+  pub compare-names-one : {r r' : Ordering} → r ≡ ordered (map upper a) (map upper b) → r' ≡ ordered (map upper a) (map upper b) → r ≡ r'
   compare-names-one = one
 
-  pub compare-bytes-one : {r r' : Order} → r ≡ ordered a b → r' ≡ ordered a b → r ≡ r'
+  pub compare-bytes-one : {r r' : Ordering} → r ≡ ordered a b → r' ≡ ordered a b → r ≡ r'
   compare-bytes-one = one
 
 -- `lex_reserved`
@@ -101,16 +103,16 @@ abbrev told : (Refusal → ℕ) → Outcome (Unit {0}) → ℕ
 told f (ok a) = 0
 told f (refused r) = f r
 
-meant-one : (r r' : Lexed) → meant_lexed r ≡ meant_lexed r' → r ≡ r'
+meant-one : (r r' : Result (Unit {0}) Fault) → meant_lexed r ≡ meant_lexed r' → r ≡ r'
 unfolding meant_lexed
-meant-one Clean Clean e = refl
-meant-one Clean (Fault n a e) p = never cc
-meant-one (Fault n a e) Clean p = never cc
-meant-one (Fault n a e) (Fault m b f) p =
-    let number : n ≡ m = ap (told (λ r. r.number)) p in
-    let start : a ≡ b = ap (told (λ r. r.first.start)) p in
-    let stop : e ≡ f = ap (told (λ r. r.first.stop)) p in
-    cc
+meant-one (Ok u) (Ok w) e = refl
+meant-one (Ok u) (Err g) p = never cc
+meant-one (Err f) (Ok w) p = never cc
+meant-one (Err f) (Err g) p =
+    let number : f.number ≡ g.number = ap (told (λ r. r.number)) p in
+    let start : f.start ≡ g.start = ap (told (λ r. r.first.start)) p in
+    let stop : f.end ≡ g.end = ap (told (λ r. r.first.stop)) p in
+    λ i. Err (fault (number i) (start i) (stop i))
 
-pub first-refusal-one : (s : List ℕ) (r r' : Lexed) → meant_lexed r ≡ verdict (lexed s) → meant_lexed r' ≡ verdict (lexed s) → r ≡ r'
+pub first-refusal-one : (s : List ℕ) (r r' : Result (Unit {0}) Fault) → meant_lexed r ≡ verdict (lexed s) → meant_lexed r' ≡ verdict (lexed s) → r ≡ r'
 first-refusal-one s r r' p q = meant-one r r' (p ∙ sym q)

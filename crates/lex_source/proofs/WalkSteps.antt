@@ -1,4 +1,8 @@
 -- A whole source: 12 by its bytes, and the walk over its tokens, one token on. Assumes nothing.
+use Rattle.std.specs.declared.result.Result.{Result}
+use Rattle.std.specs.declared.result.Result.TheVariants.{Ok, Err}
+use Rattle.base_refusals.specs.declared.Fault.{Fault}
+use Rattle.base_refusals.specs.Refusals.{fault}
 use Prim.Native.Nat.{ℕ, zero, suc, ◌+◌, ◌-◌, ◌≤◌, ◌<◌}
 use mathlib.Core.Path.{◌≡◌, refl, ap, ◌∙◌, sym, subst}
 use mathlib.Core.Bool.{Bool, true, false}
@@ -23,8 +27,6 @@ use Rattle.lex.specs.Sorts.{kind_by, Stands}
 use Rattle.lex_token.specs.declared.Token.{Token}
 use Rattle.lex_token.specs.declared.Token.TheVariants.{Unsigned, Signed, Reg, Ident, Directive, String, Colon, Comma, NewLine}
 use Rattle.lex_source.specs.Lexed.{meant_lexed, stop, unless_high}
-use Rattle.lex_source.specs.declared.Lexed.{Lexed}
-use Rattle.lex_source.specs.declared.Lexed.TheVariants.{Clean, Fault}
 
 -- a part up to e, looked through for a byte above x7F
 module _ (s p : List ℕ) (e : ℕ) (q : p ≡ take e s) (k : e ≤ length s) where
@@ -113,11 +115,11 @@ module _ (s : List ℕ) (at : ℕ) (t : Lexeme) (y : Stands s at t) where
     walk-on g = sym (tokens-onward s at ∙ ap (onward s) here) ∙ g
 
   -- the end of the source, or a refusal
-  pub walk-stop : {z : Outcome (Unit {0})} {r : Lexed} → 10 ≤ t.sort → tokens_on s at ≡ z → r ≡ stop t → meant_lexed r ≡ z
+  pub walk-stop : {z : Outcome (Unit {0})} {r : Result (Unit {0}) Fault} → 10 ≤ t.sort → tokens_on s at ≡ z → r ≡ stop t → meant_lexed r ≡ z
   unfolding stop meant_lexed onward when◌then◌else◌
   walk-stop {z} {r} h g f = ap meant_lexed f ∙ go (eqb t.sort 10) refl ∙ g
     where
-      go : (b : Bool) → eqb t.sort 10 ≡ b → meant_lexed (when b then Clean else Fault t.value t.start t.end) ≡ tokens_on s at
+      go : (b : Bool) → eqb t.sort 10 ≡ b → meant_lexed (when b then Ok tt else Err (fault t.value t.start t.end)) ≡ tokens_on s at
       go true e =
           let q : t.sort ≡ 10 = eqb-true _ _ e in
           let k : next_token s at ≡ ok (token_in (mark 0) (span t.start t.end)) = y.token (omega (arith, q)) ∙ rw q in
@@ -131,7 +133,7 @@ module _ (s : List ℕ) (at : ℕ) (t : Lexeme) (y : Stands s at t) where
 module _ (s : List ℕ) (at : ℕ) where
   -- what is left of the source
   module _ {j : ℕ} (h : at ≤ length s) (f : j ≡ run_end class.Ascii s at) where
-    pub rest-high : (o : Outcome (Unit {0})) → j < length s → meant_lexed (Fault 12 j (j + 1)) ≡ unless_high s at o
+    pub rest-high : (o : Outcome (Unit {0})) → j < length s → meant_lexed (Err (fault 12 j (j + 1))) ≡ unless_high s at o
     unfolding unless_high meant_lexed
     rest-high o l = sym (rw (high-in s s (length s) (sym (take-length s)) (omega arith) at f l))
 
@@ -141,7 +143,7 @@ module _ (s : List ℕ) (at : ℕ) where
 
 -- the whole source: 12, then the tokens
 module _ (s : List ℕ) (l : length s ≤ 262144) {j : ℕ} (f : j ≡ run_end class.Ascii s 0) where
-  pub whole-high : j < length s → meant_lexed (Fault 12 j (j + 1)) ≡ verdict (lexed s)
+  pub whole-high : j < length s → meant_lexed (Err (fault 12 j (j + 1))) ≡ verdict (lexed s)
   unfolding whole_on unless_high
   whole-high h = rest-high s 0 (omega arith) f (tokens_on s 0) h ∙ whole-start s l
 

@@ -7,7 +7,6 @@ ghost use Rattle.base_text.specs.Runs.{from};
 ghost use Rattle.lex_token.specs.Coded.{coded_as, signed_kind, form_of, told};
 ghost use Rattle.lex_token.specs.Flat.{lexeme, flat_next, next_of, Narrow};
 
-use base_casts::byte;
 use base_refusals::{
     DOES_NOT_FIT_I16, DOES_NOT_FIT_U16, INVALID_DEC_EMPTY, INVALID_HEX, INVALID_HEX_EMPTY,
     INVALID_NUMERIC, INVALID_REG,
@@ -139,10 +138,10 @@ pub fn next_of(t: Lexeme) -> Next
     match sort {
         NUMBER => took(Token::Unsigned(t.value), t),
         NEGATIVE => took(Token::Signed(t.value), t),
-        REGISTER => took(Token::Reg(byte(t.value)), t),
+        REGISTER => took(Token::Reg(t.value as u8), t),
         LABEL => took(Token::Ident(Ident::Label), t),
         STRING => took(Token::String, t),
-        RESERVED => took(Token::Ident(Ident::Reserved(byte(t.value))), t),
+        RESERVED => took(Token::Ident(Ident::Reserved(t.value as u8)), t),
         DIRECTIVE => took(Token::Directive, t),
         COLON => took(Token::Colon, t),
         COMMA => took(Token::Comma, t),

@@ -1,4 +1,8 @@
 -- What the two ways through a link answer and leave. Assumes nothing.
+use Rattle.std.specs.declared.result.Result.{Result}
+use Rattle.std.specs.declared.result.Result.TheVariants.{Ok, Err}
+use Rattle.base_refusals.specs.declared.Fault.{Fault}
+use Rattle.base_refusals.specs.Refusals.{fault}
 use mathlib.Core.Path.{◌≡◌, sym, ◌∙◌, ap}
 use mathlib.Core.Bool.{Bool, ◌||◌}
 use mathlib.Core.List.{List}
@@ -16,8 +20,6 @@ use Rattle.object.specs.Meaning.{counts}
 use Rattle.object_answer.specs.declared.Answer.{Answer}
 use Rattle.object_answer.specs.Meant.{meant, accepting, refusing}
 use Rattle.object_answer.proofs.Leaving.{leaves-refused}
-use Rattle.link_decide.specs.declared.Decision.{Decision}
-use Rattle.link_decide.specs.declared.Decision.TheVariants.{Refused}
 use Rattle.link_decide.specs.Decided.{said, counted, Decided}
 use Rattle.link.specs.Call.{Outcomes, Linked}
 use Rattle.link.proofs.Ready.{LinkReady}
@@ -33,8 +35,8 @@ counted_back : (o : Outcome Object) (w : Refusal) → refused w ≡ counted o �
 counted_back (ok p) w e = never cc
 counted_back (refused r) w e = ap again e
 
-module _ (c : Counts) (b : Buffers) (d : Counts) (e : Buffers) (out : Buffers) (small : Bool) (room : ℕ) (r : Decision) (xs ys : List ℕ) (n a f : ℕ)
-    (p : small ≡ short out) (q : room ≡ lent_words out.words out.marks) (D : Decided (counts c) b (counts d) e small room r xs ys) (z : r ≡ Refused n a f) where
+module _ (c : Counts) (b : Buffers) (d : Counts) (e : Buffers) (out : Buffers) (small : Bool) (room : ℕ) (r : Result Counts Fault) (xs ys : List ℕ) (n a f : ℕ)
+    (p : small ≡ short out) (q : room ≡ lent_words out.words out.marks) (D : Decided (counts c) b (counts d) e small room r xs ys) (z : r ≡ Err (fault n a f)) where
   refused-is : Outcomes (counts c) b (counts d) e out (refuse n (span a f))
   refused-is = go D.answer
     where

@@ -1,4 +1,7 @@
 -- A link that was decided has what its merges ask for. Assumes nothing.
+use Rattle.std.specs.declared.result.Result.{Result}
+use Rattle.std.specs.declared.result.Result.TheVariants.{Ok, Err}
+use Rattle.base_refusals.specs.declared.Fault.{Fault}
 use mathlib.Core.Path.{◌≡◌, refl, sym, ◌∙◌, ap}
 use mathlib.Core.Bool.{Bool, true, false, ◌||◌}
 use mathlib.Core.List.{List}
@@ -18,8 +21,6 @@ use Rattle.laws_link.proofs.Answers.{Answer, is_shared, is-differing, is-full, i
 use Rattle.object.specs.declared.Counts.{Counts}
 use Rattle.object.specs.Meaning.{counts}
 use Rattle.link_notes.specs.Notes.{Noted}
-use Rattle.link_decide.specs.declared.Decision.{Decision}
-use Rattle.link_decide.specs.declared.Decision.TheVariants.{Linked}
 use Rattle.link_decide.specs.Decided.{said, counted, Decided}
 use Rattle.link_blocks.specs.Meeting.{meeting}
 use Rattle.link_blocks.specs.Merged.{both_blocks, MergeReady}
@@ -56,8 +57,8 @@ abbrev counts_in : Objects.Counts → Outcome Objects.Counts → Objects.Counts
 counts_in n (ok c) = c
 counts_in n (refused r) = n
 
-module _ (c : Counts) (b : Buffers) (d : Counts) (e : Buffers) (out : Buffers) (small : Bool) (room : ℕ) (r : Decision) (xs ys : List ℕ) (k : Counts)
-    (p : small ≡ short out) (q : room ≡ lent_words out.words out.marks) (D : Decided (counts c) b (counts d) e small room r xs ys) (z : r ≡ Linked k) where
+module _ (c : Counts) (b : Buffers) (d : Counts) (e : Buffers) (out : Buffers) (small : Bool) (room : ℕ) (r : Result Counts Fault) (xs ys : List ℕ) (k : Counts)
+    (p : small ≡ short out) (q : room ≡ lent_words out.words out.marks) (D : Decided (counts c) b (counts d) e small room r xs ys) (z : r ≡ Ok k) where
   abbrev a₁ : Object
   a₁ = view (counts c) b
 

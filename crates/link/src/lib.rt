@@ -5,7 +5,6 @@ ghost use Rattle.rules.specs.Buffers.{six};
 ghost use Rattle.object.specs.Meaning.{counts};
 ghost use Rattle.link.specs.Call.{Linked};
 
-use link_decide::Decision;
 use object::Counts;
 use object_answer::Answer;
 
@@ -60,11 +59,11 @@ pub fn link(
         &mut notes2,
     );
     match decision {
-        Decision::Refused { number, start, end } => {
+        Err(fault) => {
             object_layout::clear(blocks, words, marks, labels, relocations, names);
-            object_answer::refusal(number, start, end, 0, 0)
+            object_answer::refusal(fault.number, fault.start, fault.end, 0, 0)
         }
-        Decision::Linked(c) => {
+        Ok(c) => {
             link_blocks::merge_blocks(
                 first, blocks1, words1, marks1, second, blocks2, words2, marks2, blocks, words,
                 marks,

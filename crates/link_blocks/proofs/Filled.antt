@@ -14,12 +14,12 @@ use Rattle.link_blocks.specs.Meeting.{BlockRows}
 use Rattle.link_blocks.specs.Merged.{part, row_part, word_part, merged_rows, merged_parts, first_next, RowsReady, PartsReady}
 use Rattle.link_blocks.proofs.Filling.{Filling, filling-none, filling-size, filling-first, filling-second, filling-all, next_row, next_low, other_row, other-low}
 
-pub length_part : (from n : ℕ) (l : List ℕ) → from + n ≤ length l → length (part from n l) ≡ n
+pub length_part : {A : Type 0} (from n : ℕ) (l : List A) → from + n ≤ length l → length (part from n l) ≡ n
 unfolding part
 length_part from n l h = length-take-le n (drop from l) (omega (arith, length-drop from l))
 
 -- a copied part
-pub copied : (dst res src : List ℕ) (at from n to : ℕ) → to ≡ from + n → from + n ≤ length src
+pub copied : {A : Type 0} (dst res src : List A) (at from n to : ℕ) → to ≡ from + n → from + n ≤ length src
     → res ≡ paste dst at (take (to - from) (drop from src)) (length (take (to - from) (drop from src))) → res ≡ paste dst at (part from n src) n
 unfolding part
 copied dst res src at from n to e h p =

@@ -34,7 +34,7 @@ gather [] = []
 gather (e ∷ t) = e.1 ++ gather t
 
 -- n cells of a buffer, from one on
-unfoldable pub part : ℕ → ℕ → List ℕ → List ℕ
+unfoldable pub part : {A : Type 0} → ℕ → ℕ → List A → List A
 part from n l = take n (drop from l)
 
 -- block k: its start, and its own row

@@ -8,7 +8,6 @@ ghost use Rattle.link_blocks.specs.Meeting.{BlockRows, before, meeting};
 ghost use Rattle.link_blocks.specs.Merged.{both_blocks, MergeReady, BlocksLaid, part, first_next, merged_rows, merged_parts, RowsReady, PartsReady};
 
 use base_capacities::{BLOCK_CELLS, BLOCK_LENGTH};
-use base_casts::wide16;
 use object::Counts;
 
 // Where block k starts, how many words it has, and where it ends.
@@ -17,7 +16,7 @@ pub fn start_at(blocks: &[u16], k: usize) -> usize
     ensures { (result ≡ (head_row blocks.now k).0) × (result < 65536) }
 {
     let i = k * BLOCK_CELLS;
-    wide16(blocks[i])
+    usize::from(blocks[i])
 }
 
 pub fn size_at(blocks: &[u16], k: usize) -> usize
@@ -25,7 +24,7 @@ pub fn size_at(blocks: &[u16], k: usize) -> usize
     ensures { (result ≡ (head_row blocks.now k).1) × (result < 65536) }
 {
     let i = k * BLOCK_CELLS + BLOCK_LENGTH;
-    wide16(blocks[i])
+    usize::from(blocks[i])
 }
 
 pub fn end_at(blocks: &[u16], k: usize) -> usize
@@ -33,7 +32,7 @@ pub fn end_at(blocks: &[u16], k: usize) -> usize
     ensures { result ≡ (head_row blocks.now k).0 + (head_row blocks.now k).1 }
 {
     let i = k * BLOCK_CELLS;
-    wide16(blocks[i]) + wide16(blocks[i + BLOCK_LENGTH])
+    usize::from(blocks[i]) + usize::from(blocks[i + BLOCK_LENGTH])
 }
 
 // Block i of a ends where block j of b starts, or before.
@@ -51,6 +50,7 @@ pub fn blocks_meet(a: &[u16], na: usize, b: &[u16], nb: usize) -> bool
 {
     let mut i = 0;
     let mut j = 0;
+    // A loop: each turn passes a block of the one table or of the other.
     loop {
         if na <= i {
             return false;
@@ -85,20 +85,11 @@ fn first_next(a: &[u16], na: usize, b: &[u16], nb: usize, i: usize, j: usize) ->
 }
 
 // n cells of src, from `from` on, to dst at `at`.
-fn copy_u16(dst: &mut [u16], at: usize, src: &[u16], from: usize, n: usize)
+fn copy<T: Copy>(dst: &mut [T], at: usize, src: &[T], from: usize, n: usize)
     requires { (from + n ≤ length src.now) × (at + n ≤ length dst.old) }
     ensures { dst.new ≡ paste dst.old at (part from n src.now) n }
 {
-    let to = from + n;
-    base_buffers::put_u16(dst, at, &src[from..to]);
-}
-
-fn copy_u8(dst: &mut [u8], at: usize, src: &[u8], from: usize, n: usize)
-    requires { (from + n ≤ length src.now) × (at + n ≤ length dst.old) }
-    ensures { dst.new ≡ paste dst.old at (part from n src.now) n }
-{
-    let to = from + n;
-    base_buffers::put_u8(dst, at, &src[from..to]);
+    base_buffers::put(dst, at, &src[from..from + n]);
 }
 
 // The rows of a and b by start, into a blank buffer.
@@ -108,14 +99,15 @@ fn fill_rows(a: &[u16], na: usize, b: &[u16], nb: usize, blocks: &mut [u16])
 {
     let mut i = 0;
     let mut j = 0;
+    // A while: each turn passes a block of the one table or of the other.
     while i + j < na + nb {
         let at = (i + j) * BLOCK_CELLS;
         if first_next(a, na, b, nb, i, j) {
-            copy_u16(blocks, at, a, i * BLOCK_CELLS, BLOCK_CELLS);
+            copy(blocks, at, a, i * BLOCK_CELLS, BLOCK_CELLS);
             i += 1;
             continue;
         }
-        copy_u16(blocks, at, b, j * BLOCK_CELLS, BLOCK_CELLS);
+        copy(blocks, at, b, j * BLOCK_CELLS, BLOCK_CELLS);
         j += 1;
     }
 }
@@ -137,17 +129,18 @@ fn fill_words(
     let mut j = 0;
     let mut p = 0;
     let mut q = 0;
+    // A while: each turn passes a block of the one table or of the other.
     while i + j < na + nb {
         let at = p + q;
         if first_next(a, na, b, nb, i, j) {
             let n = size_at(a, i);
-            copy_u16(words, at, a_words, p, n);
+            copy(words, at, a_words, p, n);
             p += n;
             i += 1;
             continue;
         }
         let n = size_at(b, j);
-        copy_u16(words, at, b_words, q, n);
+        copy(words, at, b_words, q, n);
         q += n;
         j += 1;
     }
@@ -170,17 +163,18 @@ fn fill_marks(
     let mut j = 0;
     let mut p = 0;
     let mut q = 0;
+    // A while: each turn passes a block of the one table or of the other.
     while i + j < na + nb {
         let at = p + q;
         if first_next(a, na, b, nb, i, j) {
             let n = size_at(a, i);
-            copy_u8(marks, at, a_marks, p, n);
+            copy(marks, at, a_marks, p, n);
             p += n;
             i += 1;
             continue;
         }
         let n = size_at(b, j);
-        copy_u8(marks, at, b_marks, q, n);
+        copy(marks, at, b_marks, q, n);
         q += n;
         j += 1;
     }
@@ -205,10 +199,10 @@ pub fn merge_blocks(
 {
     let na = ca.blocks;
     let nb = cb.blocks;
-    base_buffers::zero_u16(blocks);
+    base_buffers::clear(blocks, 0);
     fill_rows(a_blocks, na, b_blocks, nb, blocks);
-    base_buffers::zero_u16(words);
+    base_buffers::clear(words, 0);
     fill_words(a_blocks, na, a_words, b_blocks, nb, b_words, words);
-    base_buffers::zero_u8(marks);
+    base_buffers::clear(marks, 0);
     fill_marks(a_blocks, na, a_marks, b_blocks, nb, b_marks, marks);
 }

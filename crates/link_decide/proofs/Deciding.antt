@@ -1,4 +1,8 @@
 -- What is decided of two lent objects is what the rule says of them. Assumes nothing.
+use Rattle.std.specs.declared.result.Result.{Result}
+use Rattle.std.specs.declared.result.Result.TheVariants.{Ok, Err}
+use Rattle.base_refusals.specs.declared.Fault.{Fault}
+use Rattle.base_refusals.specs.Refusals.{fault}
 use mathlib.Core.Path.{◌≡◌, refl, sym, ◌∙◌, ap}
 use mathlib.Core.Bool.{Bool, true, false, ◌||◌}
 use mathlib.Core.List.{List}
@@ -16,15 +20,13 @@ use Rattle.rules.proofs.Bools.{never}
 use Rattle.laws_link.proofs.Answers.{true-holds, over-blocks, over-labels, over-relocs, link-shared, link-differs, link-full, link-short, link-made}
 use Rattle.object.specs.declared.Counts.{Counts}
 use Rattle.object.specs.Meaning.{counts}
-use Rattle.object_check.specs.declared.Checked.{Checked}
-use Rattle.object_check.specs.declared.Checked.TheVariants as check
+use Rattle.object_check.specs.declared.ObjectErr.{ObjectErr}
+use Rattle.object_check.specs.declared.ObjectErr.TheVariants.{ShortBuffer, BadObject}
 use Rattle.object_check.specs.Checked.{outcome}
 use Rattle.object_check.proofs.Whole.{checked-short, checked-wide, checked-bad, checked-valid, checked-long}
 use Rattle.link_blocks.specs.Meeting.{meeting}
 use Rattle.link_blocks.proofs.Shared.{shared_view}
 use Rattle.link_labels.specs.Matching.{both_labels, both_agree, BothNoted}
-use Rattle.link_decide.specs.declared.Decision.{Decision}
-use Rattle.link_decide.specs.declared.Decision.TheVariants.{Linked, Refused}
 use Rattle.link_decide.specs.Decided.{said, counted, Decided, given, weighed, Judged}
 use Rattle.link_decide.proofs.Steps.{weigh-blocks, weigh-labels, weigh-relocations, weigh-words, weigh-fits}
 use Rattle.link_decide.proofs.Counted.{not-shared, counts-added}
@@ -73,7 +75,7 @@ module _ (room : ℕ) (a b : Object) (s : shared a b ≡ false) (g : agree 0 a.l
           ∙ sym (ap counted (link-made room a b s g l (ap (λ (n : ℕ). leb n room) (ap (λ (m : Objects.Counts). m.words) u) ∙ le-leb t.words room h))))
 
 -- TWO OBJECTS
-module _ (c : Counts) (b : Buffers) (d : Counts) (e : Buffers) (small : Bool) (room : ℕ) (r : Decision) (xs ys : List ℕ) (v : Valid (counts c) b) (u : Valid (counts d) e)
+module _ (c : Counts) (b : Buffers) (d : Counts) (e : Buffers) (small : Bool) (room : ℕ) (r : Result Counts Fault) (xs ys : List ℕ) (v : Valid (counts c) b) (u : Valid (counts d) e)
     (long : (short b || short e || small) ≡ false) (J : Judged c b.blocks b.labels b.relocs b.names d e.blocks e.labels e.relocs e.names room r xs ys) where
   abbrev met : Bool
   met = meeting (tab c.blocks (head_row b.blocks)) (tab d.blocks (head_row e.blocks))
@@ -94,7 +96,7 @@ module _ (c : Counts) (b : Buffers) (d : Counts) (e : Buffers) (small : Bool) (r
           ∙ weighed-link room (view (counts c) b) (view (counts d) e) (not-shared c b d e v u p) q _ (counts-added c b d e v u p (J.noted p q))
 
   -- a link has its notes
-  both-noted : (k : Counts) → r ≡ Linked k → BothNoted c.labels b.labels b.names d.labels e.labels e.names (length (both_labels c.labels b.labels b.names d.labels e.labels e.names)) xs ys
+  both-noted : (k : Counts) → r ≡ Ok k → BothNoted c.labels b.labels b.names d.labels e.labels e.names (length (both_labels c.labels b.labels b.names d.labels e.labels e.names)) xs ys
   both-noted k z = go met refl agreed refl
     where
       go : (x : Bool) → met ≡ x → (g : Outcome (Unit {0})) → agreed ≡ g
@@ -121,56 +123,56 @@ or-third true y z e = refl
 or-third false true z e = refl
 or-third false false z e = e
 
-module _ (c : Counts) (b : Buffers) (d : Counts) (e : Buffers) (small : Bool) (f s t : Checked) (l : OfObject (counts c) b (ok tt) (outcome f))
+module _ (c : Counts) (b : Buffers) (d : Counts) (e : Buffers) (small : Bool) (f s t : Result (Unit {0}) ObjectErr) (l : OfObject (counts c) b (ok tt) (outcome f))
     (m : OfObject (counts d) e (ok tt) (outcome s)) (o : t ≡ given f s small) where
-  short-told : t ≡ check.ShortBuffer → (short b || short e || small) ≡ true
+  short-told : t ≡ Err ShortBuffer → (short b || short e || small) ≡ true
   unfolding given
   short-told q = go f s small refl refl refl (sym o ∙ q)
     where
-      go : (f' s' : Checked) (x : Bool) → f ≡ f' → s ≡ s' → small ≡ x → given f' s' x ≡ check.ShortBuffer → (short b || short e || small) ≡ true
+      go : (f' s' : Result (Unit {0}) ObjectErr) (x : Bool) → f ≡ f' → s ≡ s' → small ≡ x → given f' s' x ≡ Err ShortBuffer → (short b || short e || small) ≡ true
       go f' s' true p w y z = or-third (short b) (short e) small y
-      go check.ShortBuffer s' false p w y z = or-first (short b) (short e) small (checked-short f l p)
-      go check.Object s' false p w y z = or-second (short b) (short e) small (checked-short s m (w ∙ z))
-      go check.BadObject check.ShortBuffer false p w y z = or-second (short b) (short e) small (checked-short s m w)
-      go check.BadObject check.Object false p w y z = never cc
-      go check.BadObject check.BadObject false p w y z = never cc
+      go (Err ShortBuffer) s' false p w y z = or-first (short b) (short e) small (checked-short f l p)
+      go (Ok u) s' false p w y z = or-second (short b) (short e) small (checked-short s m (w ∙ z))
+      go (Err BadObject) (Err ShortBuffer) false p w y z = or-second (short b) (short e) small (checked-short s m w)
+      go (Err BadObject) (Ok u) false p w y z = never cc
+      go (Err BadObject) (Err BadObject) false p w y z = never cc
 
-  long-told : t ≡ check.BadObject → ((short b || short e || small) ≡ false) × (Valid (counts c) b × Valid (counts d) e → ⊥)
+  long-told : t ≡ Err BadObject → ((short b || short e || small) ≡ false) × (Valid (counts c) b × Valid (counts d) e → ⊥)
   unfolding given
   long-told q = go f s small refl refl refl (sym o ∙ q)
     where
-      go : (f' s' : Checked) (x : Bool) → f ≡ f' → s ≡ s' → small ≡ x → given f' s' x ≡ check.BadObject → ((short b || short e || small) ≡ false) × (Valid (counts c) b × Valid (counts d) e → ⊥)
+      go : (f' s' : Result (Unit {0}) ObjectErr) (x : Bool) → f ≡ f' → s ≡ s' → small ≡ x → given f' s' x ≡ Err BadObject → ((short b || short e || small) ≡ false) × (Valid (counts c) b × Valid (counts d) e → ⊥)
       go f' s' true p w y z = never cc
-      go check.ShortBuffer s' false p w y z = never cc
-      go check.Object s' false p w y z = (rw (checked-long f l p, checked-wide s m (w ∙ z), y) refl, λ h. checked-bad s m (w ∙ z) h.1)
-      go check.BadObject check.ShortBuffer false p w y z = never cc
-      go check.BadObject check.Object false p w y z = (rw (checked-wide f l p, checked-long s m w, y) refl, λ h. checked-bad f l p h.0)
-      go check.BadObject check.BadObject false p w y z = (rw (checked-wide f l p, checked-wide s m w, y) refl, λ h. checked-bad f l p h.0)
+      go (Err ShortBuffer) s' false p w y z = never cc
+      go (Ok u) s' false p w y z = (rw (checked-long f l p, checked-wide s m (w ∙ z), y) refl, λ h. checked-bad s m (w ∙ z) h.1)
+      go (Err BadObject) (Err ShortBuffer) false p w y z = never cc
+      go (Err BadObject) (Ok u) false p w y z = (rw (checked-wide f l p, checked-long s m w, y) refl, λ h. checked-bad f l p h.0)
+      go (Err BadObject) (Err BadObject) false p w y z = (rw (checked-wide f l p, checked-wide s m w, y) refl, λ h. checked-bad f l p h.0)
 
-  objects-told : t ≡ check.Object → ((short b || short e || small) ≡ false) × Valid (counts c) b × Valid (counts d) e
+  objects-told : t ≡ Ok tt → ((short b || short e || small) ≡ false) × Valid (counts c) b × Valid (counts d) e
   unfolding given
   objects-told q = go f s small refl refl refl (sym o ∙ q)
     where
-      go : (f' s' : Checked) (x : Bool) → f ≡ f' → s ≡ s' → small ≡ x → given f' s' x ≡ check.Object → ((short b || short e || small) ≡ false) × Valid (counts c) b × Valid (counts d) e
+      go : (f' s' : Result (Unit {0}) ObjectErr) (x : Bool) → f ≡ f' → s ≡ s' → small ≡ x → given f' s' x ≡ Ok tt → ((short b || short e || small) ≡ false) × Valid (counts c) b × Valid (counts d) e
       go f' s' true p w y z = never cc
-      go check.ShortBuffer s' false p w y z = never cc
-      go check.Object s' false p w y z = (rw (checked-long f l p, checked-long s m (w ∙ z), y) refl, checked-valid f l p, checked-valid s m (w ∙ z))
-      go check.BadObject check.ShortBuffer false p w y z = never cc
-      go check.BadObject check.Object false p w y z = never cc
-      go check.BadObject check.BadObject false p w y z = never cc
+      go (Err ShortBuffer) s' false p w y z = never cc
+      go (Ok u) s' false p w y z = (rw (checked-long f l p, checked-long s m (w ∙ z), y) refl, checked-valid f l p, checked-valid s m (w ∙ z))
+      go (Err BadObject) (Err ShortBuffer) false p w y z = never cc
+      go (Err BadObject) (Ok u) false p w y z = never cc
+      go (Err BadObject) (Err BadObject) false p w y z = never cc
 
-  pub decided-short : (room : ℕ) (r : Decision) (xs ys : List ℕ) → t ≡ check.ShortBuffer → r ≡ Refused 42 0 0 → Decided (counts c) b (counts d) e small room r xs ys
+  pub decided-short : (room : ℕ) (r : Result Counts Fault) (xs ys : List ℕ) → t ≡ Err ShortBuffer → r ≡ Err (fault 42 0 0) → Decided (counts c) b (counts d) e small room r xs ys
   decided-short room r xs ys q z = record { answer = too_short (short-told q) (ap said z); noted1 = λ k w. never cc; noted2 = λ k w. never cc }
 
-  pub decided-bad : (room : ℕ) (r : Decision) (xs ys : List ℕ) → t ≡ check.BadObject → r ≡ Refused 43 0 0 → Decided (counts c) b (counts d) e small room r xs ys
+  pub decided-bad : (room : ℕ) (r : Result Counts Fault) (xs ys : List ℕ) → t ≡ Err BadObject → r ≡ Err (fault 43 0 0) → Decided (counts c) b (counts d) e small room r xs ys
   decided-bad room r xs ys q z = let h = long-told q in record { answer = bad_object h.0 h.1 (ap said z); noted1 = λ k w. never cc; noted2 = λ k w. never cc }
 
-  module _ (q : t ≡ check.Object) where
+  module _ (q : t ≡ Ok tt) where
     pub first-valid : Valid (counts c) b
     first-valid = (objects-told q).1
 
     pub second-valid : Valid (counts d) e
     second-valid = (objects-told q).2
 
-    pub decided-judged : (room : ℕ) (r : Decision) (xs ys : List ℕ) → Judged c b.blocks b.labels b.relocs b.names d e.blocks e.labels e.relocs e.names room r xs ys → Decided (counts c) b (counts d) e small room r xs ys
+    pub decided-judged : (room : ℕ) (r : Result Counts Fault) (xs ys : List ℕ) → Judged c b.blocks b.labels b.relocs b.names d e.blocks e.labels e.relocs e.names room r xs ys → Decided (counts c) b (counts d) e small room r xs ys
     decided-judged room r xs ys J = decided-objects c b d e small room r xs ys (objects-told q).1 (objects-told q).2 (objects-told q).0 J

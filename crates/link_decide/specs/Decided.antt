@@ -1,4 +1,8 @@
 -- What is decided of a link before anything is written. Assumes nothing.
+use Rattle.std.specs.declared.result.Result.{Result}
+use Rattle.std.specs.declared.result.Result.TheVariants.{Ok, Err}
+use Rattle.base_refusals.specs.declared.Fault.{Fault}
+use Rattle.base_refusals.specs.Refusals.{fault}
 use Rattle.std.specs.Prelude.{◌≡◌, Bool, true, false, ◌||◌, List, ℕ, ◌+◌, ◌≤◌, ltb, length}
 use Rattle.rules.specs.Base.{when◌then◌else◌, Outcome, ok, Refusal, refused, refuse, span}
 use Rattle.rules.specs.Objects as Objects
@@ -8,21 +12,19 @@ use Rattle.rules.specs.Calls.{Answered}
 use Rattle.rules.specs.Linking.{link, all_labels}
 use Rattle.object.specs.declared.Counts.{Counts}
 use Rattle.object.specs.Meaning.{counts}
-use Rattle.object_check.specs.declared.Checked.{Checked}
-use Rattle.object_check.specs.declared.Checked.TheVariants as check
+use Rattle.object_check.specs.declared.ObjectErr.{ObjectErr}
+use Rattle.object_check.specs.declared.ObjectErr.TheVariants.{ShortBuffer, BadObject}
 use Rattle.link_notes.specs.Notes.{Noted, carried_rows}
 use Rattle.link_blocks.specs.Meeting.{BlockRows, meeting}
 use Rattle.link_labels.specs.Matching.{both_labels, both_agree, MatchReady, BothNoted}
 use Rattle.link_relocations.specs.Open.{open_rows, Carried}
-use Rattle.link_decide.specs.declared.Decision.{Decision}
-use Rattle.link_decide.specs.declared.Decision.TheVariants.{Linked, Refused}
 
 -- THE ANSWER
 
 -- the decision in the rules' words: the counts of the result, or the refusal
-abbrev pub said : Decision → Outcome Objects.Counts
-said (Linked c) = ok (counts c)
-said (Refused n a e) = refuse n (span a e)
+abbrev pub said : Result Counts Fault → Outcome Objects.Counts
+said (Ok c) = ok (counts c)
+said (Err f) = refuse f.number (span f.start f.end)
 
 -- what the rule says, with the counts of the object that it makes
 abbrev pub counted : Outcome Object → Outcome Objects.Counts
@@ -30,27 +32,27 @@ counted (ok o) = ok (counts_of o)
 counted (refused r) = refused r
 
 -- of two lent objects, of buffers that are too short or not (`small`), of `room` lent words
-pub record Decided (c : Objects.Counts) (b : Buffers) (d : Objects.Counts) (e : Buffers) (small : Bool) (room : ℕ) (r : Decision) (notes1 notes2 : List ℕ) : Type 0 where
+pub record Decided (c : Objects.Counts) (b : Buffers) (d : Objects.Counts) (e : Buffers) (small : Bool) (room : ℕ) (r : Result Counts Fault) (notes1 notes2 : List ℕ) : Type 0 where
   pub answer : Answered (short b || short e || small) (Valid c b × Valid d e) (counted (link room (view c b) (view d e))) (said r)
   -- where the answer is a link, each label row of either has its note
-  pub noted1 : (k : Counts) → r ≡ Linked k → Noted (all_labels (view c b) (view d e)) b.labels b.names c.labels notes1
-  pub noted2 : (k : Counts) → r ≡ Linked k → Noted (all_labels (view c b) (view d e)) e.labels e.names d.labels notes2
+  pub noted1 : (k : Counts) → r ≡ Ok k → Noted (all_labels (view c b) (view d e)) b.labels b.names c.labels notes1
+  pub noted2 : (k : Counts) → r ≡ Ok k → Noted (all_labels (view c b) (view d e)) e.labels e.names d.labels notes2
 
 -- ITS STEPS
 
 -- 42 for any of the three, then 43
-unfoldable pub given : Checked → Checked → Bool → Checked
-given first second true = check.ShortBuffer
-given check.ShortBuffer second false = check.ShortBuffer
-given check.Object second false = second
-given check.BadObject check.ShortBuffer false = check.ShortBuffer
-given check.BadObject check.Object false = check.BadObject
-given check.BadObject check.BadObject false = check.BadObject
+unfoldable pub given : Result (Unit {0}) ObjectErr → Result (Unit {0}) ObjectErr → Bool → Result (Unit {0}) ObjectErr
+given first second true = Err ShortBuffer
+given (Err ShortBuffer) second false = Err ShortBuffer
+given (Ok u) second false = second
+given (Err BadObject) (Err ShortBuffer) false = Err ShortBuffer
+given (Err BadObject) (Ok u) false = Err BadObject
+given (Err BadObject) (Err BadObject) false = Err BadObject
 
 -- 40, then 41
-unfoldable pub weighed : Counts → ℕ → Decision
+unfoldable pub weighed : Counts → ℕ → Result Counts Fault
 weighed c room =
-    when ltb 64 c.blocks || ltb 1024 c.labels || ltb 1024 c.relocations then Refused 40 0 0 else (when ltb room c.words then Refused 41 0 0 else Linked c)
+    when ltb 64 c.blocks || ltb 1024 c.labels || ltb 1024 c.relocations then Err (fault 40 0 0) else (when ltb room c.words then Err (fault 41 0 0) else Ok c)
 
 -- the counts of the result
 abbrev pub tallied : Counts → Counts → ℕ → ℕ → ℕ → Counts
@@ -79,9 +81,9 @@ abbrev pub open_count : ℕ → List ℕ → List ℕ → ℕ
 open_count n rs xs = length (open_rows (carried_rows n rs xs))
 
 -- what judging them answers
-pub record Judged (c : Counts) (bs ls rs ns : List ℕ) (d : Counts) (cs ms qs os : List ℕ) (room : ℕ) (r : Decision) (xs ys : List ℕ) : Type 0 where
+pub record Judged (c : Counts) (bs ls rs ns : List ℕ) (d : Counts) (cs ms qs os : List ℕ) (room : ℕ) (r : Result Counts Fault) (xs ys : List ℕ) : Type 0 where
   -- 28
-  pub meets : meeting (tab c.blocks (head_row bs)) (tab d.blocks (head_row cs)) ≡ true → r ≡ Refused 28 0 0
+  pub meets : meeting (tab c.blocks (head_row bs)) (tab d.blocks (head_row cs)) ≡ true → r ≡ Err (fault 28 0 0)
   -- else 25
   pub differs : meeting (tab c.blocks (head_row bs)) (tab d.blocks (head_row cs)) ≡ false → (q : Refusal) → both_agree c.labels ls ns d.labels ms os ≡ refused q → said r ≡ refused q
   -- else 40, 41 or a link, and notes

@@ -1,63 +1,55 @@
 // What a link of two lent objects answers, before anything is written: 42, 43, 28, 25, then 40 and 41 counted on the result.
 #![tactic(auto)]
 
-ghost use Rattle.std.specs.Prelude.{◌≡◌, ◌≤◌, length};
+ghost use Rattle.std.specs.Prelude.{◌≡◌, ◌≤◌, length, Err};
 ghost use Rattle.rules.specs.Buffers.{six};
 ghost use Rattle.object.specs.Meaning.{counts};
 ghost use Rattle.link_relocations.specs.Open.{Carried};
 ghost use Rattle.link_decide.specs.Decided.{open_count, given, weighed, tallied, Small, JudgeReady, Judged, Decided};
-ghost use Rattle.link_decide.specs.declared.Decision.TheVariants.{Refused};
+ghost use Rattle.base_refusals.specs.Refusals.{fault};
 
 use base_capacities::{BLOCKS, LABELS, RELOCATIONS};
 use base_refusals::{
-    BAD_OBJECT, NO_ROOM, OVERLAPPING_BLOCKS, OVERLAPPING_LABELS, SHORT_BUFFER, TABLE_FULL,
+    BAD_OBJECT, Fault, NO_ROOM, OVERLAPPING_BLOCKS, OVERLAPPING_LABELS, SHORT_BUFFER, TABLE_FULL,
 };
-use link_labels::Matched;
 use object::Counts;
-use object_check::Checked;
-
-// A link, with the counts of its result; or its refusal, whose place is a row of the first object or 0, 0.
-#[derive(Clone, Copy)]
-pub enum Decision {
-    Linked(Counts),
-    Refused {
-        number: u16,
-        start: usize,
-        end: usize,
-    },
-}
+use object_check::ObjectErr;
 
 // A refusal without a place.
-fn placeless(number: u16) -> Decision
-    ensures { result ≡ Refused number 0 0 }
+fn placeless(number: u16) -> Result<Counts, Fault>
+    ensures { result ≡ Err (fault number 0 0) }
 {
-    Decision::Refused {
+    Err(Fault {
         number,
         start: 0,
         end: 0,
-    }
+    })
 }
 
 // What two lent objects, and buffers that may be too short, are together: 42 for any of the three goes before 43.
-fn both_checked(first: Checked, second: Checked, short: bool) -> Checked
+fn both_checked(
+    first: Result<(), ObjectErr>,
+    second: Result<(), ObjectErr>,
+    short: bool,
+) -> Result<(), ObjectErr>
     ensures { result ≡ given first second short }
 {
     if short {
-        return Checked::ShortBuffer;
+        return Err(ObjectErr::ShortBuffer);
     }
     match first {
-        Checked::ShortBuffer => Checked::ShortBuffer,
-        Checked::Object => second,
-        Checked::BadObject => match second {
-            Checked::ShortBuffer => Checked::ShortBuffer,
-            Checked::Object => Checked::BadObject,
-            Checked::BadObject => Checked::BadObject,
+        Err(ObjectErr::ShortBuffer) => Err(ObjectErr::ShortBuffer),
+        Ok(()) => second,
+        Err(ObjectErr::BadObject) => match second {
+            Err(ObjectErr::ShortBuffer) => Err(ObjectErr::ShortBuffer),
+            Ok(()) => Err(ObjectErr::BadObject),
+            Err(ObjectErr::BadObject) => Err(ObjectErr::BadObject),
         },
     }
 }
 
 // 40 and 41 of a result with these counts, where `room` words are lent.
-fn weigh(c: Counts, room: usize) -> Decision
+fn weigh(c: Counts, room: usize) -> Result<Counts, Fault>
     ensures { result ≡ weighed c room }
 {
     if BLOCKS < c.blocks {
@@ -72,7 +64,7 @@ fn weigh(c: Counts, room: usize) -> Decision
     if room < c.words {
         return placeless(NO_ROOM);
     }
-    Decision::Linked(c)
+    Ok(c)
 }
 
 // The counts of a result with so many label rows, where no address is shared: of the relocations of each object those count that stay open.
@@ -113,7 +105,7 @@ fn judge(
     room: usize,
     notes1: &mut [u32],
     notes2: &mut [u32],
-) -> Decision
+) -> Result<Counts, Fault>
     requires { JudgeReady first blocks1.now labels1.now relocations1.now names1.now second blocks2.now labels2.now relocations2.now names2.now notes1.old notes2.old }
     ensures { Judged first blocks1.now labels1.now relocations1.now names1.now second blocks2.now labels2.now relocations2.now names2.now room result notes1.new notes2.new }
 {
@@ -131,12 +123,12 @@ fn judge(
         notes2,
     );
     match matched {
-        Matched::Differs(row) => Decision::Refused {
+        Err(row) => Err(Fault {
             number: OVERLAPPING_LABELS,
             start: row,
             end: row + 1,
-        },
-        Matched::Rows(rows) => {
+        }),
+        Ok(rows) => {
             let c = tally(
                 first,
                 relocations1,
@@ -171,7 +163,7 @@ pub fn decide(
     room: usize,
     notes1: &mut [u32],
     notes2: &mut [u32],
-) -> Decision
+) -> Result<Counts, Fault>
     requires { (2048 ≤ length notes1.old) × (2048 ≤ length notes2.old) }
     ensures { Decided (counts first) (six blocks1.now words1.now marks1.now labels1.now relocations1.now names1.now) (counts second) (six blocks2.now words2.now marks2.now labels2.now relocations2.now names2.now) small room result notes1.new notes2.new }
 {
@@ -194,9 +186,9 @@ pub fn decide(
         names2,
     );
     match both_checked(checked1, checked2, small) {
-        Checked::ShortBuffer => placeless(SHORT_BUFFER),
-        Checked::BadObject => placeless(BAD_OBJECT),
-        Checked::Object => judge(
+        Err(ObjectErr::ShortBuffer) => placeless(SHORT_BUFFER),
+        Err(ObjectErr::BadObject) => placeless(BAD_OBJECT),
+        Ok(()) => judge(
             first,
             blocks1,
             labels1,

@@ -1,4 +1,5 @@
 -- The address of a label row or the open mark, and two of them joined. Assumes nothing.
+use Rattle.std.specs.declared.option.Option.TheVariants.{Some, None}
 use mathlib.Core.Path.{◌≡◌, refl, sym, ◌∙◌}
 use mathlib.Core.Bool.{Bool, true, false}
 use mathlib.Core.Option.{some}
@@ -14,7 +15,6 @@ use Rattle.rules.specs.Linking.{differ, join_lab}
 use Rattle.rules.proofs.Bools.{never}
 use Rattle.link_notes.specs.Notes.{address_in}
 use Rattle.link_labels.specs.Matching.{RowIn, joined_as}
-use Rattle.link_labels.specs.declared.Joined.TheVariants.{At, Apart}
 
 pub open-defined : (ls : List ℕ) (k : ℕ) → get_or ls (k * 4 + 1) 0 ≡ 0 → get_or ls (k * 4 + 0) 0 ≡ address_in (some (lab_row ls k))
 open-defined ls k e = let z : k * 4 + 0 ≡ k * 4 = omega arith in rw (z, e)
@@ -41,24 +41,24 @@ row_low {ls} {k} r = low-lab (get_or ls (k * 4) 0) (get_or ls (k * 4 + 1) 0) r.l
 pub row-in : {n k : ℕ} {ls ns : List ℕ} → LabelsOk n ls ns → k < n → RowIn ls k
 row-in {k = k} v l = record { here = omega (arith, v.room); low = (v.rows k l).address }
 
-first-open : (u v : Lab) → LowLab u → address_in (some u) ≡ 65536 → At (address_in (some v)) ≡ joined_as u v
+first-open : (u v : Lab) → LowLab u → address_in (some u) ≡ 65536 → Some (address_in (some v)) ≡ joined_as u v
 unfolding joined_as differ when◌then◌else◌
 first-open outer v l e = refl
 first-open (defined a) v l e = absurd (omega arith)
 
-second-open : (u v : Lab) → LowLab v → (address_in (some u) ≡ 65536 → ⊥) → address_in (some v) ≡ 65536 → At (address_in (some u)) ≡ joined_as u v
+second-open : (u v : Lab) → LowLab v → (address_in (some u) ≡ 65536 → ⊥) → address_in (some v) ≡ 65536 → Some (address_in (some u)) ≡ joined_as u v
 unfolding joined_as differ when◌then◌else◌
 second-open outer v l n e = absurd (n refl)
 second-open (defined a) outer l n e = refl
 second-open (defined a) (defined b) l n e = absurd (omega arith)
 
-both_one : (u v : Lab) → (address_in (some u) ≡ 65536 → ⊥) → address_in (some u) ≡ address_in (some v) → At (address_in (some u)) ≡ joined_as u v
+both_one : (u v : Lab) → (address_in (some u) ≡ 65536 → ⊥) → address_in (some u) ≡ address_in (some v) → Some (address_in (some u)) ≡ joined_as u v
 unfolding joined_as differ when◌then◌else◌
 both_one outer v n e = absurd (n refl)
 both_one (defined a) outer n e = refl
 both_one (defined a) (defined b) n e = rw (eq-eqb a b e)
 
-both-apart : (u v : Lab) → (address_in (some u) ≡ 65536 → ⊥) → (address_in (some v) ≡ 65536 → ⊥) → (address_in (some u) ≡ address_in (some v) → ⊥) → Apart ≡ joined_as u v
+both-apart : (u v : Lab) → (address_in (some u) ≡ 65536 → ⊥) → (address_in (some v) ≡ 65536 → ⊥) → (address_in (some u) ≡ address_in (some v) → ⊥) → None ≡ joined_as u v
 unfolding joined_as differ when◌then◌else◌
 both-apart outer v n m e = absurd (n refl)
 both-apart (defined a) outer n m e = absurd (m refl)
@@ -66,31 +66,31 @@ both-apart (defined a) (defined b) n m e = rw (ne_eqb a b e)
 
 -- as the code meets them
 module _ {al bl : List ℕ} {i j x y : ℕ} (r : RowIn al i) (t : RowIn bl j) (p : x ≡ address_in (some (lab_row al i))) (q : y ≡ address_in (some (lab_row bl j))) where
-  pub join-first-open : x ≡ 65536 → At y ≡ joined_as (lab_row al i) (lab_row bl j)
+  pub join-first-open : x ≡ 65536 → Some y ≡ joined_as (lab_row al i) (lab_row bl j)
   join-first-open e = rw q (first-open (lab_row al i) (lab_row bl j) (row_low r) (sym p ∙ e))
 
-  pub join-second-open : (x ≡ 65536 → ⊥) → y ≡ 65536 → At x ≡ joined_as (lab_row al i) (lab_row bl j)
+  pub join-second-open : (x ≡ 65536 → ⊥) → y ≡ 65536 → Some x ≡ joined_as (lab_row al i) (lab_row bl j)
   join-second-open n e = rw p (second-open (lab_row al i) (lab_row bl j) (row_low t) (λ z. n (p ∙ z)) (sym q ∙ e))
 
-  pub join_one : (x ≡ 65536 → ⊥) → x ≡ y → At x ≡ joined_as (lab_row al i) (lab_row bl j)
+  pub join_one : (x ≡ 65536 → ⊥) → x ≡ y → Some x ≡ joined_as (lab_row al i) (lab_row bl j)
   join_one n e = rw p (both_one (lab_row al i) (lab_row bl j) (λ z. n (p ∙ z)) (sym p ∙ (e ∙ q)))
 
-  pub join_apart : (x ≡ 65536 → ⊥) → (y ≡ 65536 → ⊥) → (x ≡ y → ⊥) → Apart ≡ joined_as (lab_row al i) (lab_row bl j)
+  pub join_apart : (x ≡ 65536 → ⊥) → (y ≡ 65536 → ⊥) → (x ≡ y → ⊥) → None ≡ joined_as (lab_row al i) (lab_row bl j)
   join_apart n m e = both-apart (lab_row al i) (lab_row bl j) (λ z. n (p ∙ z)) (λ z. m (q ∙ z)) (λ z. e (p ∙ (z ∙ sym q)))
 
 -- what the answer says of the two
-pub at-false : (u v : Lab) {x : ℕ} → At x ≡ joined_as u v → (differ u (some v) ≡ false) × (x ≡ address_in (some (join_lab u v)))
+pub at-false : (u v : Lab) {x : ℕ} → Some x ≡ joined_as u v → (differ u (some v) ≡ false) × (x ≡ address_in (some (join_lab u v)))
 unfolding joined_as when◌then◌else◌
 at-false u v {x} e = go (differ u (some v)) e
   where
-    go : (b : Bool) → At x ≡ (when b then Apart else At (address_in (some (join_lab u v)))) → (b ≡ false) × (x ≡ address_in (some (join_lab u v)))
+    go : (b : Bool) → Some x ≡ (when b then None else Some (address_in (some (join_lab u v)))) → (b ≡ false) × (x ≡ address_in (some (join_lab u v)))
     go true e = never cc
     go false e = (refl, cc)
 
-pub apart-true : (u v : Lab) → Apart ≡ joined_as u v → differ u (some v) ≡ true
+pub apart-true : (u v : Lab) → None ≡ joined_as u v → differ u (some v) ≡ true
 unfolding joined_as when◌then◌else◌
 apart-true u v e = go (differ u (some v)) e
   where
-    go : (b : Bool) → Apart ≡ (when b then Apart else At (address_in (some (join_lab u v)))) → b ≡ true
+    go : (b : Bool) → None ≡ (when b then None else Some (address_in (some (join_lab u v)))) → b ≡ true
     go true e = refl
     go false e = never cc

@@ -1,4 +1,6 @@
 -- What matching and laying say in the words of the link's rules. Assumes nothing.
+use Rattle.std.specs.declared.result.Result.{Result}
+use Rattle.std.specs.declared.result.Result.TheVariants.{Ok, Err}
 use mathlib.Core.Path.{◌≡◌, refl, sym, ◌∙◌, ap}
 use mathlib.Core.List.{List}
 use Prim.Native.Nat.{ℕ, ◌+◌, ◌≤◌}
@@ -11,18 +13,16 @@ use Rattle.rules.specs.Linking.{all_labels, union}
 use Rattle.object_layout_labels.specs.Laying.{LabelRoom, LaidLabels}
 use Rattle.link_labels.specs.Matching.{both_labels, both_agree, told, BothNoted, Matches}
 use Rattle.link_labels.specs.Laying.{LayReady}
-use Rattle.link_labels.specs.declared.Matched.{Matched}
-use Rattle.link_labels.specs.declared.Matched.TheVariants.{Rows, Differs}
 
 -- THE ANSWER of matching
-module _ {m : ℕ} {al an : List ℕ} {n : ℕ} {bl bn xs ys : List ℕ} {r : Matched} {k : ℕ} (t : Matches m al an n bl bn r xs ys) where
-  pub rows_agree : r ≡ Rows k → both_agree m al an n bl bn ≡ ok tt
+module _ {m : ℕ} {al an : List ℕ} {n : ℕ} {bl bn xs ys : List ℕ} {r : Result ℕ ℕ} {k : ℕ} (t : Matches m al an n bl bn r xs ys) where
+  pub rows_agree : r ≡ Ok k → both_agree m al an n bl bn ≡ ok tt
   rows_agree e = sym t.answer ∙ ap told e
 
-  pub rows-noted : r ≡ Rows k → BothNoted m al an n bl bn k xs ys
+  pub rows-noted : r ≡ Ok k → BothNoted m al an n bl bn k xs ys
   rows-noted e = t.noted k e
 
-  pub differs_at : r ≡ Differs k → both_agree m al an n bl bn ≡ refuse 25 (span k (k + 1))
+  pub differs_at : r ≡ Err k → both_agree m al an n bl bn ≡ refuse 25 (span k (k + 1))
   differs_at e = sym t.answer ∙ ap told e
 
 -- WHAT LAYING ASKS, from what matching leaves

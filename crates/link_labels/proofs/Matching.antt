@@ -1,4 +1,7 @@
 -- What the loop that matches labels keeps, and each way through its body. Assumes nothing.
+use Rattle.std.specs.declared.result.Result.TheVariants.{Ok, Err}
+use Rattle.std.specs.declared.option.Option as O
+use Rattle.std.specs.declared.option.Option.TheVariants.{Some, None}
 use mathlib.Core.Path.{◌≡◌, refl, sym, ◌∙◌, ap}
 use mathlib.Core.Bool.{true, false}
 use mathlib.Core.Option.{none, some}
@@ -18,11 +21,8 @@ use Rattle.rules.proofs.Merging.{rows_from, rows_all, rows_none, rows_next, low_
 use Rattle.base_buffers.specs.Rows.{with_row}
 use Rattle.link_notes.specs.Notes.{address_in, Noted}
 use Rattle.link_labels.specs.Matching.{both_labels, both_agree, RowIn, joined_as, FirstNext, SecondNext, BothNext, NoneNext, Sided, MatchReady, Matches}
-use Rattle.link_labels.specs.declared.Joined.{Joined}
-use Rattle.link_labels.specs.declared.Joined.TheVariants.{At, Apart}
 use Rattle.link_labels.specs.declared.Side.{Side}
 use Rattle.link_labels.specs.declared.Side.TheVariants.{First, Second, Both, Over}
-use Rattle.link_labels.specs.declared.Matched.TheVariants.{Rows, Differs}
 use Rattle.link_labels.proofs.Agreeing.{agree-low, agree-next, agree-stop, differ-none}
 use Rattle.link_labels.proofs.Joining.{row-in, at-false, apart-true}
 use Rattle.link_labels.proofs.Rests.{Rest, rest-start, first-here, first_rest, second-here, second-rest, both-here, both_rest, none_rest}
@@ -156,8 +156,8 @@ module _ {m : ℕ} {al an : List ℕ} {n : ℕ} {bl bn xs₀ ys₀ xs ys : List 
     pub both-note-second : j * 2 + 1 < length ys
     both-note-second = omega (arith, (s.both q).second, t.second_notes, c.second-size)
 
-    module _ {w : Joined} (d : w ≡ joined_as (lab_row al i) (lab_row bl j)) where
-      pub match-both : {x : ℕ} {xs' ys' : List ℕ} → w ≡ At x → xs' ≡ with_row xs i k x → ys' ≡ with_row ys j k x → Matching m al an n bl bn xs₀ ys₀ xs' ys' (i + 1) (j + 1) (k + 1)
+    module _ {w : O.Option ℕ} (d : w ≡ joined_as (lab_row al i) (lab_row bl j)) where
+      pub match-both : {x : ℕ} {xs' ys' : List ℕ} → w ≡ Some x → xs' ≡ with_row xs i k x → ys' ≡ with_row ys j k x → Matching m al an n bl bn xs₀ ys₀ xs' ys' (i + 1) (j + 1) (k + 1)
       match-both {x} {xs'} {ys'} z e o =
           let f = s.both q in
           let a = t.first in
@@ -173,13 +173,13 @@ module _ {m : ℕ} {al an : List ℕ} {n : ℕ} {bl bn xs₀ ys₀ xs ys : List 
             second = rw o (noted_more c.second both-note-second h refl u.1);
           }
 
-      pub match-apart : w ≡ Apart → Matches m al an n bl bn (Differs i) xs ys
+      pub match-apart : w ≡ None → Matches m al an n bl bn (Err i) xs ys
       match-apart z =
           let u = apart-true (lab_row al i) (lab_row bl j) (sym z ∙ d) in
           record { answer = sym (agree-apart t.first t.second (s.both q) u) ∙ c.agreeing; noted = λ o p. (never cc) }
 
   -- nothing is left
-  pub match-all : r ≡ Over → Matches m al an n bl bn (Rows k) xs ys
+  pub match-all : r ≡ Over → Matches m al an n bl bn (Ok k) xs ys
   match-all q =
       let f = s.over q in
       let g = none_rest t.first t.second c.rest f in

@@ -7,8 +7,8 @@ use Rattle.rules.specs.Objects.{Name}
 use Rattle.rules.specs.Buffers.{name_row}
 use Rattle.rules.proofs.Bools.{never}
 use Rattle.base_text.specs.Names.{ordered}
-use Rattle.base_text.specs.declared.Order.{Order}
-use Rattle.base_text.specs.declared.Order.TheVariants.{Less, Same, Greater}
+use Rattle.std.specs.declared.cmp.Ordering.{Ordering}
+use Rattle.std.specs.declared.cmp.Ordering.TheVariants.{Less, Equal, Greater}
 use Rattle.object.proofs.Order.{is-less, is_same, is_greater}
 use Rattle.link_labels.specs.Matching.{FirstNext, SecondNext, BothNext, Sided}
 use Rattle.link_labels.specs.declared.Side.{Side}
@@ -35,14 +35,14 @@ module _ {m : ℕ} {al an : List ℕ} {n : ℕ} {bl bn : List ℕ} {i j : ℕ} w
   side-first p q = sided-first (record { within = p; low = λ l. absurd (omega arith) })
 
   -- both have
-  module _ {x y : Name} {r : Order} (p : i < m) (q : j < n) (d : x ≡ name_row al an i) (e : y ≡ name_row bl bn j) (o : r ≡ ordered x y) where
+  module _ {x y : Name} {r : Ordering} (p : i < m) (q : j < n) (d : x ≡ name_row al an i) (e : y ≡ name_row bl bn j) (o : r ≡ ordered x y) where
     pub side-less : r ≡ Less → Sided m al an n bl bn i j First
     side-less l = sided-first (record { within = p; low = λ z. rw (d, e) at (is-less x y o l) })
 
     pub side-greater : r ≡ Greater → Sided m al an n bl bn i j Second
     side-greater l = sided-second (record { within = q; low = λ z. rw (d, e) at (is_greater x y o l) })
 
-    pub side_same : r ≡ Same → Sided m al an n bl bn i j Both
+    pub side_same : r ≡ Equal → Sided m al an n bl bn i j Both
     side_same l = sided-both (record { first = p; second = q; same = sym d ∙ (is_same x y o l ∙ e) })
 
 -- WHAT IS LEFT of both grows less

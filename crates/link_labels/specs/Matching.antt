@@ -1,4 +1,8 @@
 -- The labels of two objects in one table, which object has its next row, and what matching them answers. Assumes nothing.
+use Rattle.std.specs.declared.result.Result.{Result}
+use Rattle.std.specs.declared.result.Result.TheVariants.{Ok, Err}
+use Rattle.std.specs.declared.option.Option as O
+use Rattle.std.specs.declared.option.Option.TheVariants.{Some, None}
 use Rattle.std.specs.Prelude.{◌≡◌, List, ℕ, ◌+◌, ◌*◌, ◌≤◌, ◌<◌, length, get_or}
 use Rattle.std.proofs.Math.Option.{some}
 use Rattle.rules.specs.Base.{Outcome, ok, refuse, span, when◌then◌else◌}
@@ -7,12 +11,8 @@ use Rattle.rules.specs.Objects.{Lab, Name}
 use Rattle.rules.specs.Buffers.{name_row, view_labels, LabelsOk}
 use Rattle.rules.specs.Linking.{differ, agree, join_lab}
 use Rattle.link_notes.specs.Notes.{address_in, Noted}
-use Rattle.link_labels.specs.declared.Joined.{Joined}
-use Rattle.link_labels.specs.declared.Joined.TheVariants.{At, Apart}
 use Rattle.link_labels.specs.declared.Side.{Side}
 use Rattle.link_labels.specs.declared.Side.TheVariants.{First, Second, Both, Over}
-use Rattle.link_labels.specs.declared.Matched.{Matched}
-use Rattle.link_labels.specs.declared.Matched.TheVariants.{Rows, Differs}
 
 -- the labels of both objects: m rows al with names an, n rows bl with names bn
 unfoldable pub both_labels : (m : ℕ) (al an : List ℕ) (n : ℕ) (bl bn : List ℕ) → Table Name Lab
@@ -28,8 +28,8 @@ pub record RowIn (ls : List ℕ) (k : ℕ) : Type 0 where
   pub low : get_or ls (k * 4) 0 < 65536
 
 -- what two labels of one name become
-unfoldable pub joined_as : Lab → Lab → Joined
-joined_as u v = when differ u (some v) then Apart else At (address_in (some (join_lab u v)))
+unfoldable pub joined_as : Lab → Lab → O.Option ℕ
+joined_as u v = when differ u (some v) then None else Some (address_in (some (join_lab u v)))
 
 -- WHICH OBJECT HAS THE NEXT ROW, when i rows of the first and j of the second are out
 
@@ -66,9 +66,9 @@ pub record MatchReady (m : ℕ) (al an : List ℕ) (n : ℕ) (bl bn xs ys : List
   pub second_notes : n * 2 ≤ length ys
 
 -- the answer as the rules'
-abbrev pub told : Matched → Outcome (Unit {0})
-told (Rows k) = ok tt
-told (Differs k) = refuse 25 (span k (k + 1))
+abbrev pub told : Result ℕ ℕ → Outcome (Unit {0})
+told (Ok k) = ok tt
+told (Err k) = refuse 25 (span k (k + 1))
 
 -- all rows are noted, in a result of k rows
 pub record BothNoted (m : ℕ) (al an : List ℕ) (n : ℕ) (bl bn : List ℕ) (k : ℕ) (xs ys : List ℕ) : Type 0 where
@@ -76,6 +76,6 @@ pub record BothNoted (m : ℕ) (al an : List ℕ) (n : ℕ) (bl bn : List ℕ) (
   pub first : Noted (both_labels m al an n bl bn) al an m xs
   pub second : Noted (both_labels m al an n bl bn) bl bn n ys
 
-pub record Matches (m : ℕ) (al an : List ℕ) (n : ℕ) (bl bn : List ℕ) (r : Matched) (xs ys : List ℕ) : Type 0 where
+pub record Matches (m : ℕ) (al an : List ℕ) (n : ℕ) (bl bn : List ℕ) (r : Result ℕ ℕ) (xs ys : List ℕ) : Type 0 where
   pub answer : told r ≡ both_agree m al an n bl bn
-  pub noted : (k : ℕ) → r ≡ Rows k → BothNoted m al an n bl bn k xs ys
+  pub noted : (k : ℕ) → r ≡ Ok k → BothNoted m al an n bl bn k xs ys

@@ -12,10 +12,9 @@ ghost use Rattle.link_labels.specs.Matching.{both_labels, RowIn, joined_as, Side
 ghost use Rattle.link_labels.specs.Laying.{due, side_of, noted_lab, NotedRoom, LayReady};
 
 use base_capacities::{DEFINED, EXTERNAL, LABEL_ADDRESS, LABEL_CELLS, LABEL_FLAG};
-use base_casts::{narrow, wide};
-use base_text::Order;
 use link_notes::OPEN;
 use object_layout_labels::{NO_ADDRESS, put_label};
+use std::cmp::Ordering;
 
 // Which object has the next row of the result.
 #[derive(Clone, Copy)]
@@ -24,20 +23,6 @@ enum Side {
     Second,
     Both,
     Over,
-}
-
-// What two labels of one name become: an address or OPEN; apart where both are defined, at different addresses.
-#[derive(Clone, Copy)]
-enum Joined {
-    At(u32),
-    Apart,
-}
-
-// The rows of the result; or the first object's row of a name that the second defines at another address.
-#[derive(Clone, Copy)]
-pub enum Matched {
-    Rows(usize),
-    Differs(usize),
 }
 
 // The address of label row k, or OPEN.
@@ -52,23 +37,23 @@ fn open_address(labels: &[u32], k: usize) -> u32
     OPEN
 }
 
-// Row i of the first object and row j of the second, which have one name.
-fn join_rows(labels1: &[u32], i: usize, labels2: &[u32], j: usize) -> Joined
+// What row i of the first object and row j of the second, which have one name, become: an address or OPEN; nothing where both are defined, at different addresses.
+fn join_rows(labels1: &[u32], i: usize, labels2: &[u32], j: usize) -> Option<u32>
     requires { RowIn labels1.now i × RowIn labels2.now j }
     ensures { result ≡ joined_as (lab_row labels1.now i) (lab_row labels2.now j) }
 {
     let x = open_address(labels1, i);
     let y = open_address(labels2, j);
     if x == OPEN {
-        return Joined::At(y);
+        return Some(y);
     }
     if y == OPEN {
-        return Joined::At(x);
+        return Some(x);
     }
     if x == y {
-        return Joined::At(x);
+        return Some(x);
     }
-    Joined::Apart
+    None
 }
 
 // Which object has the next row, by names, when i rows of the one and j of the other are out.
@@ -98,9 +83,9 @@ fn next_side(
         object::label_name(labels2, names2, j),
     );
     match order {
-        Order::Less => Side::First,
-        Order::Greater => Side::Second,
-        Order::Same => Side::Both,
+        Ordering::Less => Side::First,
+        Ordering::Greater => Side::Second,
+        Ordering::Equal => Side::Both,
     }
 }
 
@@ -109,7 +94,7 @@ fn note(notes: &mut [u32], i: usize, k: usize, address: u32)
     requires { (i * 2 + 1 < length notes.old) × (k ≤ 262144) }
     ensures { notes.new ≡ with_row notes.old i k address }
 {
-    base_buffers::row_u32(notes, i, narrow(k), address);
+    base_buffers::row(notes, i, k as u32, address);
 }
 
 // The note of row i, whose name the other object does not have.
@@ -120,7 +105,8 @@ fn note_own(labels: &[u32], i: usize, notes: &mut [u32], k: usize)
     note(notes, i, k, open_address(labels, i));
 }
 
-// The rows of both objects in order of their names, each noted with its row in the result and its address there; or the first that differs.
+// The rows of both objects in order of their names, each noted with its row in the result and its address there: how many rows the result has; or the first object's first row whose name the second
+// defines at another address.
 pub fn match_labels(
     labels1: &[u32],
     names1: &[u8],
@@ -130,17 +116,18 @@ pub fn match_labels(
     n: usize,
     notes1: &mut [u32],
     notes2: &mut [u32],
-) -> Matched
+) -> Result<usize, usize>
     requires { MatchReady m labels1.now names1.now n labels2.now names2.now notes1.old notes2.old }
     ensures { Matches m labels1.now names1.now n labels2.now names2.now result notes1.new notes2.new }
 {
     let mut i = 0;
     let mut j = 0;
     let mut k = 0;
+    // A loop: each turn passes a row of the one object, of the other or of both.
     loop {
         match next_side(labels1, names1, m, i, labels2, names2, n, j) {
             Side::Over => {
-                return Matched::Rows(k);
+                return Ok(k);
             }
             Side::First => {
                 note_own(labels1, i, notes1, k);
@@ -153,10 +140,10 @@ pub fn match_labels(
                 k += 1;
             }
             Side::Both => match join_rows(labels1, i, labels2, j) {
-                Joined::Apart => {
-                    return Matched::Differs(i);
+                None => {
+                    return Err(i);
                 }
-                Joined::At(address) => {
+                Some(address) => {
                     note(notes1, i, k, address);
                     note(notes2, j, k, address);
                     i += 1;
@@ -176,7 +163,7 @@ fn is_due(notes: &[u32], n: usize, i: usize, k: usize) -> bool
     if n <= i {
         return false;
     }
-    wide(link_notes::row_at(notes, i)) == k
+    link_notes::row_at(notes, i) as usize == k
 }
 
 // Whose row is row k of the result, by notes, when i rows of the one and j of the other are out.
@@ -248,6 +235,7 @@ fn lay_rows(
     let mut j = 0;
     let mut k = 0;
     let mut at = 0;
+    // A loop: each turn passes a row of the one object, of the other or of both.
     loop {
         match next_due(notes1, m, i, notes2, n, j, k) {
             Side::Over => {
@@ -289,8 +277,8 @@ pub fn lay_labels(
     requires { LayReady m labels1.now names1.now notes1.now n labels2.now names2.now notes2.now labels.old names.old }
     ensures { LaidLabels (both_labels m labels1.now names1.now n labels2.now names2.now) labels.old names.old labels.new names.new }
 {
-    base_buffers::zero_u32(labels);
-    base_buffers::zero_u8(names);
+    base_buffers::clear(labels, 0);
+    base_buffers::clear(names, 0);
     lay_rows(
         labels1, names1, m, notes1, labels2, names2, n, notes2, labels, names,
     );

@@ -1,4 +1,6 @@
 -- What the loop that merges open relocations keeps. Assumes nothing.
+use borrow.Author.Tests.{ltb-true, ltb-false}
+use lib.Dec.{ltb}
 use mathlib.Core.Path.{◌≡◌, refl, sym, ◌∙◌, ap}
 use mathlib.Core.Bool.{Bool, true, false}
 use mathlib.Core.List.{List, [], ◌∷◌, ◌++◌, append_assoc, append-nil}
@@ -21,11 +23,11 @@ use Rattle.link_relocations.proofs.Sieved.{open_none, open_stays, open-goes, put
 -- WHICH IS NEXT
 
 module _ {n : ℕ} {rs : List ℕ} {i m : ℕ} {qs : List ℕ} {j : ℕ} where
-  pub next-yes : i < n → j < m → get_or rs (i * 2) 0 < get_or qs (j * 2) 0 → Decides (Next n rs i m qs j) true
-  next-yes h l k = decides_yes (record { here = h; first = λ q. k })
-
-  pub next-no : i < n → j < m → get_or qs (j * 2) 0 ≤ get_or rs (i * 2) 0 → Decides (Next n rs i m qs j) false
-  next-no h l k = decides_no (λ v. (let u = v.first l in omega arith))
+  pub next-by : i < n → j < m → Decides (Next n rs i m qs j) (ltb (get_or rs (i * 2) 0) (get_or qs (j * 2) 0))
+  next-by h l = record {
+    yes = λ e. record { here = h; first = λ q. ltb-true (get_or rs (i * 2) 0) (get_or qs (j * 2) 0) e };
+    no = λ e v. (let u = v.first l in let w = ltb-false (get_or rs (i * 2) 0) (get_or qs (j * 2) 0) e in omega arith);
+  }
 
   pub next_last : i < n → m ≤ j → Decides (Next n rs i m qs j) true
   next_last h l = decides_yes (record { here = h; first = λ q. absurd (omega arith) })

@@ -9,14 +9,13 @@ ghost use Rattle.link_notes.specs.Notes.{carried, carried_rows};
 ghost use Rattle.link_relocations.specs.Open.{is_open, open_rows, both_rows, row_cells, put_open, row_after, Carried, Both, Placed, Next};
 
 use base_capacities::{RELOCATION_CELLS, RELOCATION_LABEL};
-use base_casts::wide;
 
 // The label row of relocation k.
 fn label_row(relocations: &[u32], k: usize) -> usize
     requires { k * 2 + 1 < length relocations.now }
     ensures { result ≡ get_or relocations.now (k * 2 + 1) 0 }
 {
-    wide(relocations[k * RELOCATION_CELLS + RELOCATION_LABEL])
+    relocations[k * RELOCATION_CELLS + RELOCATION_LABEL] as usize
 }
 
 // Relocation k stays open.
@@ -34,11 +33,8 @@ pub fn count_open(relocations: &[u32], n: usize, notes: &[u32]) -> usize
     ensures upper_bound { result ≤ n }
 {
     let mut count = 0;
-    let mut k = 0;
-    while k < n {
-        let open = is_open(relocations, notes, k);
-        k += 1;
-        if open {
+    for k in 0..n {
+        if is_open(relocations, notes, k) {
             count += 1;
         }
     }
@@ -53,7 +49,7 @@ fn put_open(relocations: &[u32], notes: &[u32], i: usize, out: &mut [u32], k: us
 {
     if is_open(relocations, notes, i) {
         let row = link_notes::row_at(notes, label_row(relocations, i));
-        base_buffers::row_u32(out, k, relocations[i * RELOCATION_CELLS], row);
+        base_buffers::row(out, k, relocations[i * RELOCATION_CELLS], row);
         return k + 1;
     }
     k
@@ -64,16 +60,13 @@ fn first_is_next(a: &[u32], n: usize, i: usize, b: &[u32], m: usize, j: usize) -
     requires { (n * 2 ≤ length a.now) × (m * 2 ≤ length b.now) }
     ensures { Decides (Next n a.now i m b.now j) result }
 {
-    if i < n {
-        if j < m {
-            if a[i * RELOCATION_CELLS] < b[j * RELOCATION_CELLS] {
-                return true;
-            }
-            return false;
-        }
+    if n <= i {
+        return false;
+    }
+    if m <= j {
         return true;
     }
-    false
+    a[i * RELOCATION_CELLS] < b[j * RELOCATION_CELLS]
 }
 
 // Both tables in one by address, without the relocations that are resolved, into a cleared table.
@@ -92,6 +85,7 @@ fn merge_rows(
     let mut i = 0;
     let mut j = 0;
     let mut k = 0;
+    // A while: each turn passes a row of the one table or of the other.
     while i + j < n + m {
         if first_is_next(a, n, i, b, m, j) {
             k = put_open(a, a_notes, i, out, k);
@@ -116,6 +110,6 @@ pub fn merge_relocations(
     requires { Both n a.now a_notes.now m b.now b_notes.now out.old }
     ensures { out.new ≡ lay (row_cells (open_rows (both_rows n a.now a_notes.now m b.now b_notes.now))) (length out.old) }
 {
-    base_buffers::zero_u32(out);
+    base_buffers::clear(out, 0);
     merge_rows(a, n, a_notes, b, m, b_notes, out);
 }

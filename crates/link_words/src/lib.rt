@@ -7,7 +7,6 @@ ghost use Rattle.link_notes.specs.Notes.{open_mark, carried, carried_rows};
 ghost use Rattle.link_words.specs.Settled.{ends_before, word_place, WordAt, settled_word, settled_words, SettleReady};
 
 use base_capacities::{RELOCATION_CELLS, RELOCATION_LABEL};
-use base_casts::{wide, word16};
 use link_blocks::{end_at, size_at, start_at};
 use link_notes::OPEN;
 
@@ -17,7 +16,7 @@ fn place_at(relocations: &[u32], k: usize) -> usize
     ensures { (result ≡ get_or relocations.now (k * 2) 0) × (result < 4294967296) }
 {
     let i = k * RELOCATION_CELLS;
-    wide(relocations[i])
+    relocations[i] as usize
 }
 
 // The address that its name has in the result, or OPEN.
@@ -26,7 +25,7 @@ fn target_at(relocations: &[u32], k: usize, notes: &[u32]) -> u32
     ensures { result ≡ (carried relocations.now notes.now k).1.1 }
 {
     let i = k * RELOCATION_CELLS + RELOCATION_LABEL;
-    let row = wide(relocations[i]);
+    let row = relocations[i] as usize;
     link_notes::address_at(notes, row)
 }
 
@@ -54,7 +53,7 @@ fn settle_word(words: &mut [u16], p: usize, address: u32)
     if address == OPEN {
         return;
     }
-    words[p] = word16(address);
+    words[p] = address as u16;
 }
 
 // Relocations and blocks both rise: of the blocks, those that end at the next relocation's address or before are passed, and their words counted.
@@ -72,6 +71,7 @@ pub fn settle_words(
     let mut k = 0;
     let mut row = 0;
     let mut passed = 0;
+    // A while: each turn passes a relocation or a block.
     while k < n {
         if ends_before(blocks, row, relocations, k) {
             passed += size_at(blocks, row);

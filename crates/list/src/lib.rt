@@ -11,7 +11,7 @@ use base_refusals::{BAD_OBJECT, NO_WRITE_ROOM, SHORT_BUFFER};
 use list_lines::{BLOCK_LINE_BYTES, WORD_LINE_BYTES};
 use object::Counts;
 use object_answer::Written;
-use object_check::Checked;
+use object_check::ObjectErr;
 
 // How long the listing of a valid object is.
 fn listing_size(
@@ -75,10 +75,10 @@ pub fn list(
 ) -> Written
     ensures { Called (counts c) (six blocks.now words.now marks.now labels.now relocations.now names.now) (length out.old) result out.new }
 {
-    base_buffers::zero_u8(out);
+    base_buffers::clear(out, 0);
     match object_check::check_object(c, blocks, words, marks, labels, relocations, names) {
-        Checked::Object => list_object(c, blocks, words, marks, labels, relocations, names, out),
-        Checked::ShortBuffer => Written::Refused(SHORT_BUFFER),
-        Checked::BadObject => Written::Refused(BAD_OBJECT),
+        Ok(()) => list_object(c, blocks, words, marks, labels, relocations, names, out),
+        Err(ObjectErr::ShortBuffer) => Written::Refused(SHORT_BUFFER),
+        Err(ObjectErr::BadObject) => Written::Refused(BAD_OBJECT),
     }
 }

@@ -58,6 +58,3 @@ module _ {b₀ : List ℕ} {at start : ℕ} {ws ms : List ℕ} where
         within = omega arith;
         next = omega (arith, p.next);
       }
-
-  pub listed-all : {b : List ℕ} {end i address : ℕ} → Listed b₀ b at end start ws ms i address → length ws ≤ i → Appended b₀ b at end (cell_lines start ws ms (length ws))
-  listed-all {b} {end} {i} {address} p k = let e : i ≡ length ws = omega (arith, p.within) in rw e at p.lines

@@ -75,7 +75,7 @@ pub fn put_text(out: &mut [u8], at: usize, text: &[u8]) -> usize
     requires { at + length text.now ≤ length out.old }
     ensures { Appended out.old out.new at result text.now }
 {
-    base_buffers::put_u8(out, at, text);
+    base_buffers::put(out, at, text);
     at + text.len()
 }
 
@@ -96,14 +96,12 @@ pub fn put_cells(out: &mut [u8], at: usize, start: u16, words: &[u16], marks: &[
     requires words_in_bounds { at + length (cell_lines start words.now marks.now (length words.now)) ≤ length out.old }
     ensures { Appended out.old out.new at result (cell_lines start words.now marks.now (length words.now)) }
 {
-    let mut i = 0;
     let mut end = at;
     let mut address = start;
-    while i < words.len() {
-        let line = cell_line(address, words[i], marks[i]);
+    for (word, mark) in words.iter().zip(marks) {
+        let line = cell_line(address, *word, *mark);
         end = put_text(out, end, &line);
         address += 1;
-        i += 1;
     }
     end
 }

@@ -55,7 +55,7 @@ fn write_refused(text: &mut [u8], number: u16) -> usize
     requires in_bounds { 11 ≤ length text.old }
     ensures { Wrote (printed (refuse number nowhere)) (length text.old) result text.new }
 {
-    base_buffers::zero_u8(text);
+    base_buffers::clear(text, 0);
     let a = list_lines::put_text(text, 0, b"REFUSED ");
     let b = put_decimal(text, a, number);
     list_lines::put_text(text, b, b"\n")

@@ -13,7 +13,6 @@ ghost use Rattle.list_sections.specs.Sizes.{Sized, SizedAll};
 use base_capacities::{
     BLOCK_CELLS, BLOCK_LENGTH, DEFINED, LABEL_CELLS, LABEL_FLAG, RELOCATION_CELLS, RELOCATION_LABEL,
 };
-use base_casts::{wide, wide16, word16};
 
 // How long what stands before the name is, in the lines of a defined label, an external and a relocation.
 const LABEL_FRONT_BYTES: usize = 11;
@@ -70,7 +69,7 @@ fn put_label(out: &mut [u8], at: usize, labels: &[u32], names: &[u8], k: usize) 
     let i = k * LABEL_CELLS;
     let name = object::label_name(labels, names, k);
     if labels[i + LABEL_FLAG] == DEFINED {
-        let front = label_front(word16(labels[i]));
+        let front = label_front(labels[i] as u16);
         return list_lines::put_line(out, at, &front, name);
     }
     list_lines::put_line(out, at, b"EXTERN ", name)
@@ -82,11 +81,9 @@ pub fn put_labels(out: &mut [u8], at: usize, labels: &[u32], names: &[u8], n: us
     requires names_in_bounds { at + length (flat_map label_line (view_labels n labels.now names.now)) ≤ length out.old }
     ensures { Appended out.old out.new at result (flat_map label_line (view_labels n labels.now names.now)) }
 {
-    let mut k = 0;
     let mut end = at;
-    while k < n {
+    for k in 0..n {
         end = put_label(out, end, labels, names, k);
-        k += 1;
     }
     end
 }
@@ -106,9 +103,9 @@ fn put_relocation(
     ensures { Appended out.old out.new at result (reloc_line (reloc_row relocations.now labels.now names.now k)) }
 {
     let i = k * RELOCATION_CELLS;
-    let row = wide(relocations[i + RELOCATION_LABEL]);
+    let row = relocations[i + RELOCATION_LABEL] as usize;
     let name = object::label_name(labels, names, row);
-    let front = relocation_front(word16(relocations[i]));
+    let front = relocation_front(relocations[i] as u16);
     list_lines::put_line(out, at, &front, name)
 }
 
@@ -125,11 +122,9 @@ pub fn put_relocations(
     requires names_in_bounds { at + length (flat_map reloc_line (view_relocs n relocations.now labels.now names.now)) ≤ length out.old }
     ensures { Appended out.old out.new at result (flat_map reloc_line (view_relocs n relocations.now labels.now names.now)) }
 {
-    let mut k = 0;
     let mut end = at;
-    while k < n {
+    for k in 0..n {
         end = put_relocation(out, end, relocations, labels, names, k);
-        k += 1;
     }
     end
 }
@@ -149,17 +144,15 @@ pub fn put_blocks(
     requires marks_in_bounds { at + length (flat_map block_lines (view_blocks n w blocks.now words.now marks.now)) ≤ length out.old }
     ensures { Appended out.old out.new at result (flat_map block_lines (view_blocks n w blocks.now words.now marks.now)) }
 {
-    let mut k = 0;
     let mut end = at;
     let mut first = 0;
-    while k < n {
+    for k in 0..n {
         let i = k * BLOCK_CELLS;
         let start = blocks[i];
-        let size = wide16(blocks[i + BLOCK_LENGTH]);
+        let size = usize::from(blocks[i + BLOCK_LENGTH]);
         let stop = first + size;
         end = put_block(out, end, start, &words[first..stop], &marks[first..stop]);
         first = stop;
-        k += 1;
     }
     end
 }
@@ -183,11 +176,9 @@ pub fn labels_size(labels: &[u32], names: &[u8], n: usize) -> usize
     requires { LabelsOk n labels.now names.now }
     ensures { SizedAll 1024 result (flat_map label_line (view_labels n labels.now names.now)) }
 {
-    let mut k = 0;
     let mut size = 0;
-    while k < n {
+    for k in 0..n {
         size += label_size(labels, names, k);
-        k += 1;
     }
     size
 }
@@ -199,7 +190,7 @@ fn relocation_size(relocations: &[u32], labels: &[u32], names: &[u8], k: usize) 
     ensures { Sized result (reloc_line (reloc_row relocations.now labels.now names.now k)) }
 {
     let i = k * RELOCATION_CELLS;
-    let row = wide(relocations[i + RELOCATION_LABEL]);
+    let row = relocations[i + RELOCATION_LABEL] as usize;
     let name = object::label_name(labels, names, row);
     name.len() + RELOCATION_LINE_REST
 }
@@ -209,11 +200,9 @@ pub fn relocations_size(relocations: &[u32], labels: &[u32], names: &[u8], n: us
     requires { RelocsNamed n relocations.now labels.now names.now }
     ensures { SizedAll 1024 result (flat_map reloc_line (view_relocs n relocations.now labels.now names.now)) }
 {
-    let mut k = 0;
     let mut size = 0;
-    while k < n {
+    for k in 0..n {
         size += relocation_size(relocations, labels, names, k);
-        k += 1;
     }
     size
 }

@@ -7,12 +7,12 @@ use Rattle.rules.specs.Tables.{Before, before_trans, name_order}
 use Rattle.rules.specs.Objects.{Name}
 use Rattle.rules.proofs.Rows.{up_lt}
 use Rattle.rules.proofs.Bools.{never}
-use Rattle.rules.proofs.Halving.{Halved, Sides, halved-start, halved-up, halved-down}
+use Rattle.rules.proofs.Halving.{Halved, Sides, halved-up, halved-down}
 use Rattle.base_text.specs.Names.{ordered}
-use Rattle.base_text.specs.declared.Order.{Order}
-use Rattle.base_text.specs.declared.Order.TheVariants.{Less, Same, Greater}
+use Rattle.std.specs.declared.cmp.Ordering.{Ordering}
+use Rattle.std.specs.declared.cmp.Ordering.TheVariants.{Less, Equal, Greater}
 use Rattle.object.specs.Slots.{upper_name, upper_row, Rising, Slotted}
-use Rattle.object.specs.declared.Slot.TheVariants.{Taken, Free}
+use Rattle.object.specs.declared.Slot.TheVariants.{Taken}
 use Rattle.object.proofs.Order.{is-less, is_same, is_greater}
 
 -- the rows below lo come before x, and those from hi on after it
@@ -42,10 +42,7 @@ module _ (ls ns : List ℕ) (n : ℕ) (x : Name) where
     up = λ k m l h b. before_trans x (upper_name ls ns k) (upper_name ls ns m) b (up_lt name_order n (upper_row ls ns) v.up k m l h);
   }
 
-pub slot-none : {ls ns : List ℕ} {n : ℕ} {x : Name} → Halving ls ns n x 0 n
-slot-none {ls} {ns} {n} {x} = halving ls ns n x (halved-start (Less' ls ns n x) (More' ls ns n x))
-
-module _ {ls ns : List ℕ} {n lo hi : ℕ} {x : Name} {r : Order} (v : Rising ls ns n) (t : Halving ls ns n x lo hi) (l : lo < hi)
+module _ {ls ns : List ℕ} {n lo hi : ℕ} {x : Name} {r : Ordering} (v : Rising ls ns n) (t : Halving ls ns n x lo hi) (l : lo < hi)
     (e : r ≡ ordered (upper_name ls ns (lo + (hi - lo) / 2)) x) where
   pub slot-up : r ≡ Less → Halving ls ns n x (lo + (hi - lo) / 2 + 1) hi
   slot-up q = halving ls ns n x (halved-up _ _ (sides ls ns n x v) (halved ls ns n x t) l (is-less (upper_name ls ns (lo + (hi - lo) / 2)) x e q))
@@ -53,18 +50,10 @@ module _ {ls ns : List ℕ} {n lo hi : ℕ} {x : Name} {r : Order} (v : Rising l
   pub slot-down : r ≡ Greater → Halving ls ns n x lo (lo + (hi - lo) / 2)
   slot-down q = halving ls ns n x (halved-down _ _ (sides ls ns n x v) (halved ls ns n x t) l (is_greater (upper_name ls ns (lo + (hi - lo) / 2)) x e q))
 
-  pub slot-hit : r ≡ Same → Slotted ls ns n x (Taken (lo + (hi - lo) / 2))
+  pub slot-hit : r ≡ Equal → Slotted ls ns n x (Taken (lo + (hi - lo) / 2))
   slot-hit q = record {
     taken = λ k p. (let w : lo + (hi - lo) / 2 ≡ k = cc in (omega (arith, t.within), rw w at (is_same (upper_name ls ns (lo + (hi - lo) / 2)) x e q)));
     within = λ p z. (never cc);
     below = λ p z. (never cc);
     above = λ p z. (never cc);
   }
-
-pub slot-free : {ls ns : List ℕ} {n lo hi : ℕ} {x : Name} → Halving ls ns n x lo hi → hi ≤ lo → Slotted ls ns n x (Free lo)
-slot-free {ls} {ns} {n} {lo} {hi} {x} t l = record {
-  taken = λ k p. (never cc);
-  within = λ p z. (let w : lo ≡ p = cc in omega (arith, t.within, t.order));
-  below = λ p z k h. (let w : lo ≡ p = cc in t.below k (omega arith));
-  above = λ p z k h m. (let w : lo ≡ p = cc in t.above k (omega arith) m);
-}

@@ -3,7 +3,7 @@
 
 ghost use Rattle.std.specs.Prelude.{◌≡◌, map, ◌+◌, ◌*◌, ◌≤◌, length, get_or};
 ghost use Rattle.rules.specs.Tokens.{upper};
-ghost use Rattle.rules.specs.Buffers.{six, short, least, lent_words, name_row, lab_row};
+ghost use Rattle.rules.specs.Buffers.{six, short, lent_words, name_row, lab_row};
 ghost use Rattle.base_text.specs.Names.{ordered};
 ghost use Rattle.object.specs.Meaning.{lab};
 ghost use Rattle.object.specs.Slots.{upper_name, Rising, Slotted};
@@ -12,8 +12,7 @@ use base_capacities::{
     BLOCK_CELLS, BLOCKS, DEFINED, LABEL_CELLS, LABEL_FLAG, LABELS, NAME_BYTES, NAME_LENGTH,
     NAME_START, RELOCATION_CELLS, RELOCATIONS, WORDS,
 };
-use base_casts::wide;
-use base_text::Order;
+use std::cmp::Ordering;
 
 // The least lengths of the tables and of the name buffer: room for full capacities.
 pub const BLOCK_ROOM: usize = BLOCKS * BLOCK_CELLS;
@@ -33,7 +32,7 @@ pub struct Counts {
     pub relocations: usize,
 }
 
-// What a label row says.
+// What a label row says. No Option: an external is no absence, but said of the label.
 #[derive(Clone, Copy)]
 pub enum Label {
     Defined(u32),
@@ -64,20 +63,11 @@ pub fn is_short(
         | (names.len() < NAME_ROOM)
 }
 
-fn lesser(m: usize, n: usize) -> usize
-    ensures { result ≡ least m n }
-{
-    if m < n {
-        return m;
-    }
-    n
-}
-
 // The lent words: the least of the word buffer, its set marks and WORDS.
 pub fn lent_words(words: &[u16], marks: &[u8]) -> usize
     ensures { result ≡ lent_words words.now marks.now }
 {
-    lesser(lesser(words.len(), marks.len()), WORDS)
+    words.len().min(marks.len()).min(WORDS)
 }
 
 // The name of label row k, as a part of the lent name bytes; empty where the row or its name is not there.
@@ -88,8 +78,8 @@ pub fn label_name<'a>(labels: &[u32], names: &'a [u8], k: usize) -> &'a [u8]
         return &names[0..0];
     }
     let i = k * LABEL_CELLS;
-    let start = wide(labels[i + NAME_START]);
-    let size = wide(labels[i + NAME_LENGTH]);
+    let start = labels[i + NAME_START] as usize;
+    let size = labels[i + NAME_LENGTH] as usize;
     if names.len() <= start {
         return &names[0..0];
     }
@@ -106,8 +96,8 @@ pub fn name_of<'a>(labels: &[u32], names: &'a [u8], k: usize) -> &'a [u8]
     ensures { result.now ≡ name_row labels.now names.now k }
 {
     let i = k * LABEL_CELLS;
-    let start = wide(labels[i + NAME_START]);
-    let end = start + wide(labels[i + NAME_LENGTH]);
+    let start = labels[i + NAME_START] as usize;
+    let end = start + labels[i + NAME_LENGTH] as usize;
     &names[start..end]
 }
 
@@ -124,7 +114,7 @@ pub fn label_at(labels: &[u32], k: usize) -> Label
 }
 
 // The order of the name of row k and a name, both in upper case.
-pub fn compare_row(labels: &[u32], names: &[u8], k: usize, name: &[u8]) -> Order
+pub fn compare_row(labels: &[u32], names: &[u8], k: usize, name: &[u8]) -> Ordering
     ensures { result ≡ ordered (upper_name labels.now names.now k) (map upper name.now) }
 {
     base_text::compare_names(label_name(labels, names, k), name)
@@ -137,16 +127,17 @@ pub fn slot_of(labels: &[u32], names: &[u8], n: usize, name: &[u8]) -> Slot
 {
     let mut lo = 0;
     let mut hi = n;
+    // A while: each turn halves what is left.
     while lo < hi {
         let mid = lo + (hi - lo) / 2;
         match compare_row(labels, names, mid, name) {
-            Order::Less => {
+            Ordering::Less => {
                 lo = mid + 1;
             }
-            Order::Greater => {
+            Ordering::Greater => {
                 hi = mid;
             }
-            Order::Same => {
+            Ordering::Equal => {
                 return Slot::Taken(mid);
             }
         }

@@ -11,8 +11,10 @@ use Rattle.object.specs.Decides.{Decides, decides_no}
 use Rattle.rules.specs.Calls.{OfObject, too_short, bad_object, on_object}
 use Rattle.object_check_relocations.specs.Ground.{Ground}
 use Rattle.object_check.specs.Checked.{outcome, outcome-one}
-use Rattle.object_check.specs.declared.Checked.{Checked}
-use Rattle.object_check.specs.declared.Checked.TheVariants.{Object, ShortBuffer, BadObject}
+use Rattle.std.specs.declared.result.Result.{Result}
+use Rattle.std.specs.declared.result.Result.TheVariants.{Ok, Err}
+use Rattle.object_check.specs.declared.ObjectErr.{ObjectErr}
+use Rattle.object_check.specs.declared.ObjectErr.TheVariants.{ShortBuffer, BadObject}
 
 module _ {c : Counts} {b : Buffers} {r : Bool} where
   pub no_blocks : Decides (BlocksOk c.blocks c.words b.blocks) r → r ≡ false → Decides (Valid c b) false
@@ -38,75 +40,75 @@ grounds p x q y l z = record { blocks = p.yes x; words = q.yes y; labels = (l.ye
 
 -- 42, then 43
 module _ (c : Counts) (b : Buffers) {t : Bool} (e : t ≡ short b) where
-  pub is-short : t ≡ true → OfObject c b (ok tt) (outcome ShortBuffer)
+  pub is-short : t ≡ true → OfObject c b (ok tt) (outcome (Err ShortBuffer))
   is-short q = too_short (rw e at q) refl
 
   module _ {r : Bool} (d : Decides (Valid c b) r) (n : t ≡ false) where
-    pub is-good : r ≡ true → OfObject c b (ok tt) (outcome Object)
+    pub is-good : r ≡ true → OfObject c b (ok tt) (outcome (Ok tt))
     is-good q = on_object (rw e at n) (d.yes q) refl
 
-    pub is-bad : r ≡ false → OfObject c b (ok tt) (outcome BadObject)
+    pub is-bad : r ≡ false → OfObject c b (ok tt) (outcome (Err BadObject))
     is-bad q = bad_object (rw e at n) (d.no q) refl
 
 -- WHAT A CALL LEARNS FROM THE CHECK
 
-module _ {c : Counts} {b : Buffers} (r : Checked) (l : OfObject c b (ok tt) (outcome r)) where
-  pub checked-valid : r ≡ Object → Valid c b
+module _ {c : Counts} {b : Buffers} (r : Result (Unit {0}) ObjectErr) (l : OfObject c b (ok tt) (outcome r)) where
+  pub checked-valid : r ≡ Ok tt → Valid c b
   checked-valid q = go l
     where
       go : OfObject c b (ok tt) (outcome r) → Valid c b
-      go (too_short p e) = never (cc (outcome-one r ShortBuffer e))
-      go (bad_object p n e) = never (cc (outcome-one r BadObject e))
+      go (too_short p e) = never (cc (outcome-one r (Err ShortBuffer) e))
+      go (bad_object p n e) = never (cc (outcome-one r (Err BadObject) e))
       go (on_object p v e) = v
 
-  pub checked-long : r ≡ Object → short b ≡ false
+  pub checked-long : r ≡ Ok tt → short b ≡ false
   checked-long q = go l
     where
       go : OfObject c b (ok tt) (outcome r) → short b ≡ false
-      go (too_short p e) = never (cc (outcome-one r ShortBuffer e))
+      go (too_short p e) = never (cc (outcome-one r (Err ShortBuffer) e))
       go (bad_object p n e) = p
       go (on_object p v e) = p
 
-  pub checked-short : r ≡ ShortBuffer → short b ≡ true
+  pub checked-short : r ≡ Err ShortBuffer → short b ≡ true
   checked-short q = go l
     where
       go : OfObject c b (ok tt) (outcome r) → short b ≡ true
       go (too_short p e) = p
-      go (bad_object p n e) = never (cc (outcome-one r BadObject e))
-      go (on_object p v e) = never (cc (outcome-one r Object e))
+      go (bad_object p n e) = never (cc (outcome-one r (Err BadObject) e))
+      go (on_object p v e) = never (cc (outcome-one r (Ok tt) e))
 
-  pub checked-wide : r ≡ BadObject → short b ≡ false
+  pub checked-wide : r ≡ Err BadObject → short b ≡ false
   checked-wide q = go l
     where
       go : OfObject c b (ok tt) (outcome r) → short b ≡ false
-      go (too_short p e) = never (cc (outcome-one r ShortBuffer e))
+      go (too_short p e) = never (cc (outcome-one r (Err ShortBuffer) e))
       go (bad_object p n e) = p
       go (on_object p v e) = p
 
-  pub checked-bad : r ≡ BadObject → Valid c b → ⊥
+  pub checked-bad : r ≡ Err BadObject → Valid c b → ⊥
   checked-bad q = go l
     where
       go : OfObject c b (ok tt) (outcome r) → Valid c b → ⊥
-      go (too_short p e) = never (cc (outcome-one r ShortBuffer e))
+      go (too_short p e) = never (cc (outcome-one r (Err ShortBuffer) e))
       go (bad_object p n e) = n
-      go (on_object p v e) = never (cc (outcome-one r Object e))
+      go (on_object p v e) = never (cc (outcome-one r (Ok tt) e))
 
   -- a call that goes on with the object, and one that hands on the refusal
-  pub goes_on : {A : Type 0} {rule x : Outcome A} → r ≡ Object → x ≡ rule → OfObject c b rule x
+  pub goes_on : {A : Type 0} {rule x : Outcome A} → r ≡ Ok tt → x ≡ rule → OfObject c b rule x
   goes_on q e = on_object (checked-long q) (checked-valid q) e
 
-  pub refuses-short : {A : Type 0} {rule x : Outcome A} → r ≡ ShortBuffer → x ≡ refuse 42 nowhere → OfObject c b rule x
+  pub refuses-short : {A : Type 0} {rule x : Outcome A} → r ≡ Err ShortBuffer → x ≡ refuse 42 nowhere → OfObject c b rule x
   refuses-short {A} {rule} {x} q d = go l
     where
       go : OfObject c b (ok tt) (outcome r) → OfObject c b rule x
       go (too_short p e) = too_short p d
-      go (bad_object p n e) = never (cc (outcome-one r BadObject e))
-      go (on_object p v e) = never (cc (outcome-one r Object e))
+      go (bad_object p n e) = never (cc (outcome-one r (Err BadObject) e))
+      go (on_object p v e) = never (cc (outcome-one r (Ok tt) e))
 
-  pub refuses-bad : {A : Type 0} {rule x : Outcome A} → r ≡ BadObject → x ≡ refuse 43 nowhere → OfObject c b rule x
+  pub refuses-bad : {A : Type 0} {rule x : Outcome A} → r ≡ Err BadObject → x ≡ refuse 43 nowhere → OfObject c b rule x
   refuses-bad {A} {rule} {x} q d = go l
     where
       go : OfObject c b (ok tt) (outcome r) → OfObject c b rule x
-      go (too_short p e) = never (cc (outcome-one r ShortBuffer e))
+      go (too_short p e) = never (cc (outcome-one r (Err ShortBuffer) e))
       go (bad_object p n e) = bad_object p n d
-      go (on_object p v e) = never (cc (outcome-one r Object e))
+      go (on_object p v e) = never (cc (outcome-one r (Ok tt) e))

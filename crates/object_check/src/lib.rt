@@ -10,10 +10,9 @@ ghost use Rattle.object_check.specs.Checked.{outcome};
 
 use object::Counts;
 
-// What the buffers are: an object, too short (42), or no object (43).
+// Why lent buffers are no object: one is too short (42), or what they hold is none (43).
 #[derive(Clone, Copy)]
-pub enum Checked {
-    Object,
+pub enum ObjectErr {
     ShortBuffer,
     BadObject,
 }
@@ -71,16 +70,16 @@ pub fn check_object(
     labels: &[u32],
     relocations: &[u32],
     names: &[u8],
-) -> Checked
+) -> Result<(), ObjectErr>
     ensures { OfObject (counts c) (six blocks.now words.now marks.now labels.now relocations.now names.now) (ok tt) (outcome result) }
 {
     let short = object::is_short(blocks, words, marks, labels, relocations, names);
     if short {
-        return Checked::ShortBuffer;
+        return Err(ObjectErr::ShortBuffer);
     }
     let good = is_object(c, blocks, words, marks, labels, relocations, names);
     if good {
-        return Checked::Object;
+        return Ok(());
     }
-    Checked::BadObject
+    Err(ObjectErr::BadObject)
 }

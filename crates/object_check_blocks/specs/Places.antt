@@ -1,19 +1,19 @@
 -- Where the word of an address stands, and what a word and its mark keep. Assumes nothing.
+use Rattle.std.specs.declared.option.Option as O
+use Rattle.std.specs.declared.option.Option.TheVariants.{Some, None}
 use Rattle.std.specs.Prelude.{◌≡◌, List, ℕ, ◌+◌, ◌≤◌, ◌<◌, get_or}
 use Rattle.rules.specs.Objects.{word}
 use Rattle.rules.specs.Buffers.{tab, head_row, cell_row}
 use Rattle.rules.proofs.Chains.{Spot}
-use Rattle.object_check_blocks.specs.declared.Place.{Place}
-use Rattle.object_check_blocks.specs.declared.Place.TheVariants.{At, Nowhere}
 
 -- block k has the address
 abbrev pub Inside : (ℕ → ℕ × ℕ) → ℕ → ℕ → Type 0
 Inside h x k = ((h k).0 ≤ x) × (x < (h k).0 + (h k).1)
 
 -- the place of the address, or no block has it
-pub record Placed (n w : ℕ) (bs : List ℕ) (x : ℕ) (r : Place) : Type 0 where
-  pub hit : (p : ℕ) → r ≡ At p → (p < w) × Spot x (tab n (head_row bs)) p
-  pub miss : r ≡ Nowhere → (k : ℕ) → k < n → Inside (head_row bs) x k → ⊥
+pub record Placed (n w : ℕ) (bs : List ℕ) (x : ℕ) (r : O.Option ℕ) : Type 0 where
+  pub hit : (p : ℕ) → r ≡ Some p → (p < w) × Spot x (tab n (head_row bs)) p
+  pub miss : r ≡ None → (k : ℕ) → k < n → Inside (head_row bs) x k → ⊥
 
 -- word p is set, and 0
 pub record ZeroCell (ws ms : List ℕ) (p : ℕ) : Type 0 where

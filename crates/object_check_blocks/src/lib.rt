@@ -7,17 +7,9 @@ ghost use Rattle.object.specs.Decides.{Decides};
 ghost use Rattle.object_check_blocks.specs.Places.{Placed, ZeroCell, Celled, Part, Marked};
 
 use base_capacities::{BLOCK_CELLS, BLOCK_LENGTH, BLOCKS, SET, UNSET};
-use base_casts::wide16;
 
 // The first address of the devices, as wide as a sum of a start and a length.
 const IO_START: usize = base_capacities::IO_START as usize;
-
-// Where a word stands.
-#[derive(Clone, Copy)]
-pub enum Place {
-    At(usize),
-    Nowhere,
-}
 
 // The n block rows rise without overlap, are not empty, end at most at xFE00 and have w words together.
 pub fn check_blocks(blocks: &[u16], n: usize, w: usize) -> bool
@@ -31,11 +23,10 @@ pub fn check_blocks(blocks: &[u16], n: usize, w: usize) -> bool
     }
     let mut end = 0;
     let mut sum = 0;
-    let mut k = 0;
-    while k < n {
+    for k in 0..n {
         let i = k * BLOCK_CELLS;
-        let start = wide16(blocks[i]);
-        let size = wide16(blocks[i + BLOCK_LENGTH]);
+        let start = usize::from(blocks[i]);
+        let size = usize::from(blocks[i + BLOCK_LENGTH]);
         if start < end {
             return false;
         }
@@ -47,12 +38,8 @@ pub fn check_blocks(blocks: &[u16], n: usize, w: usize) -> bool
         }
         end = start + size;
         sum += size;
-        k += 1;
     }
-    if sum == w {
-        return true;
-    }
-    false
+    sum == w
 }
 
 // A mark is 1, or 0 beside a word that is 0.
@@ -71,10 +58,8 @@ fn all_set(marks: &[u8], at: usize, stop: usize) -> bool
     ensures { Decides (Part (Marked marks.now) at stop) result }
 {
     let mut set = true;
-    let mut i = at;
-    while i < stop {
-        set = set & (marks[i] == SET);
-        i += 1;
+    for i in at..stop {
+        set &= marks[i] == SET;
     }
     set
 }
@@ -85,10 +70,8 @@ fn check_cells(words: &[u16], marks: &[u8], at: usize, stop: usize) -> bool
     ensures { Decides (Part (WordRow words.now marks.now) at stop) result }
 {
     let mut good = true;
-    let mut i = at;
-    while i < stop {
-        good = good & check_cell(words[i], marks[i]);
-        i += 1;
+    for i in at..stop {
+        good &= check_cell(words[i], marks[i]);
     }
     good
 }
@@ -98,10 +81,7 @@ fn check_part(words: &[u16], marks: &[u8], at: usize, stop: usize) -> bool
     requires { (at ≤ stop) × (stop ≤ length words.now) × (stop ≤ length marks.now) }
     ensures { Decides (Part (WordRow words.now marks.now) at stop) result }
 {
-    if all_set(marks, at, stop) {
-        return true;
-    }
-    check_cells(words, marks, at, stop)
+    all_set(marks, at, stop) || check_cells(words, marks, at, stop)
 }
 
 // The first w marks are 0 or 1, and a word whose mark is 0 is 0.
@@ -115,6 +95,7 @@ pub fn check_words(words: &[u16], marks: &[u8], w: usize) -> bool
         return false;
     }
     let mut i = 0;
+    // A while: steps of 256 words, as long as so many are left.
     while STEP <= w - i {
         let stop = i + STEP;
         if check_part(words, marks, i, stop) {
@@ -126,28 +107,26 @@ pub fn check_words(words: &[u16], marks: &[u8], w: usize) -> bool
     check_part(words, marks, i, w)
 }
 
-// The place, among the words of all blocks, of the word at address x.
-pub fn place_of(blocks: &[u16], n: usize, w: usize, x: usize) -> Place
+// The place, among the words of all blocks, of the word at address x, if a block has it.
+pub fn place_of(blocks: &[u16], n: usize, w: usize, x: usize) -> Option<usize>
     requires { BlocksOk n w blocks.now }
     ensures { Placed n w blocks.now x result }
 {
     let mut sum = 0;
-    let mut k = 0;
-    while k < n {
+    for k in 0..n {
         let i = k * BLOCK_CELLS;
-        let start = wide16(blocks[i]);
-        let size = wide16(blocks[i + BLOCK_LENGTH]);
+        let start = usize::from(blocks[i]);
+        let size = usize::from(blocks[i + BLOCK_LENGTH]);
         if x < start {
-            return Place::Nowhere;
+            return None;
         }
         let d = x - start;
         if d < size {
-            return Place::At(sum + d);
+            return Some(sum + d);
         }
         sum += size;
-        k += 1;
     }
-    Place::Nowhere
+    None
 }
 
 // Word p is set and 0.
@@ -155,13 +134,7 @@ pub fn zero_cell(words: &[u16], marks: &[u8], p: usize) -> bool
     requires { (p < length words.now) × (p < length marks.now) }
     ensures { Decides (ZeroCell words.now marks.now p) result }
 {
-    if marks[p] == UNSET {
-        return false;
-    }
-    if words[p] == 0 {
-        return true;
-    }
-    false
+    marks[p] != UNSET && words[p] == 0
 }
 
 // A set word 0 stands at an address.
@@ -170,7 +143,7 @@ pub fn zero_at(blocks: &[u16], n: usize, words: &[u16], marks: &[u8], w: usize, 
     ensures { Decides (ZeroAt n w blocks.now words.now marks.now x) result }
 {
     match place_of(blocks, n, w, x) {
-        Place::At(p) => zero_cell(words, marks, p),
-        Place::Nowhere => false,
+        Some(p) => zero_cell(words, marks, p),
+        None => false,
     }
 }

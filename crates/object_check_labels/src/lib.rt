@@ -11,8 +11,8 @@ ghost use Rattle.object_names.specs.Plain.{CapitalFront};
 use base_capacities::{
     ADDRESSES, DEFINED, EXTERNAL, LABEL_CELLS, LABEL_FLAG, LABELS, NAME_LENGTH, NAME_START,
 };
-use base_casts::wide;
-use base_text::{KEY_BYTES, Order, key_at};
+use base_text::{KEY_BYTES, key_at};
+use std::cmp::Ordering;
 
 // The last address that there is.
 const LAST_ADDRESS: u32 = ADDRESSES - 1;
@@ -21,19 +21,7 @@ const LAST_ADDRESS: u32 = ADDRESSES - 1;
 fn check_flag(address: u32, flag: u32) -> bool
     ensures { Decides (Flagged address flag) result }
 {
-    if LAST_ADDRESS < address {
-        return false;
-    }
-    if flag == DEFINED {
-        return true;
-    }
-    if EXTERNAL < flag {
-        return false;
-    }
-    if address == 0 {
-        return true;
-    }
-    false
+    address <= LAST_ADDRESS && (flag == DEFINED || (flag == EXTERNAL && address == 0))
 }
 
 // The rules of one row. The first `front` name bytes are capital letters, digits and underscores, and are not looked at again.
@@ -42,19 +30,15 @@ fn check_label(labels: &[u32], names: &[u8], k: usize, front: usize) -> bool
     ensures { Decides (LabelRow labels.now names.now k) result }
 {
     let i = k * LABEL_CELLS;
-    let flagged = check_flag(labels[i], labels[i + LABEL_FLAG]);
-    if flagged {
-        let start = wide(labels[i + NAME_START]);
-        let end = start + wide(labels[i + NAME_LENGTH]);
-        if end <= front {
-            return object_names::is_capital_label(&names[start..end]);
-        }
-        if names.len() < end {
-            return false;
-        }
-        return object_names::is_label(&names[start..end]);
+    if !check_flag(labels[i], labels[i + LABEL_FLAG]) {
+        return false;
     }
-    false
+    let start = labels[i + NAME_START] as usize;
+    let end = start + labels[i + NAME_LENGTH] as usize;
+    if end <= front {
+        return object_names::is_capital_label(&names[start..end]);
+    }
+    end <= names.len() && object_names::is_label(&names[start..end])
 }
 
 // A name goes before another.
@@ -62,9 +46,9 @@ fn is_before(a: &[u8], b: &[u8]) -> bool
     ensures { Decides (Before a.now b.now) result }
 {
     match base_text::compare_bytes(a, b) {
-        Order::Less => true,
-        Order::Same => false,
-        Order::Greater => false,
+        Ordering::Less => true,
+        Ordering::Equal => false,
+        Ordering::Greater => false,
     }
 }
 
@@ -72,10 +56,7 @@ fn is_before(a: &[u8], b: &[u8]) -> bool
 fn goes_before(a: &[u8], b: &[u8]) -> bool
     ensures { Decides (Before a.now b.now) result }
 {
-    if a.len() < KEY_BYTES {
-        return is_before(a, b);
-    }
-    if b.len() < KEY_BYTES {
+    if a.len() < KEY_BYTES || b.len() < KEY_BYTES {
         return is_before(a, b);
     }
     let x = key_at(a, 0);
@@ -94,8 +75,7 @@ fn follows(labels: &[u32], names: &[u8], k: usize) -> bool
     if k == 0 {
         return true;
     }
-    let j = k - 1;
-    let before = object::name_of(labels, names, j);
+    let before = object::name_of(labels, names, k - 1);
     let name = object::name_of(labels, names, k);
     goes_before(before, name)
 }
@@ -111,17 +91,11 @@ pub fn check_labels(labels: &[u32], names: &[u8], n: usize) -> bool
         return false;
     }
     let front = object_names::capital_front(names);
-    let mut k = 0;
-    while k < n {
-        let row = check_label(labels, names, k, front);
-        if row {
-            let up = follows(labels, names, k);
-            if up {
-                k += 1;
-            } else {
-                return false;
-            }
-        } else {
+    for k in 0..n {
+        if !check_label(labels, names, k, front) {
+            return false;
+        }
+        if !follows(labels, names, k) {
             return false;
         }
     }

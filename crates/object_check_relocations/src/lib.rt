@@ -9,7 +9,6 @@ ghost use Rattle.object_check_relocations.specs.Ground.{Ground, Rises};
 use base_capacities::{
     EXTERNAL, LABEL_CELLS, LABEL_FLAG, RELOCATION_CELLS, RELOCATION_LABEL, RELOCATIONS,
 };
-use base_casts::wide;
 
 // Row k names an external, and stands at a set word 0.
 fn check_relocation(
@@ -27,15 +26,12 @@ fn check_relocation(
     ensures { Decides (RelocRow nb w m blocks.now words.now marks.now labels.now relocations.now k) result }
 {
     let i = k * RELOCATION_CELLS;
-    let j = wide(relocations[i + RELOCATION_LABEL]);
+    let j = relocations[i + RELOCATION_LABEL] as usize;
     if m <= j {
         return false;
     }
-    let q = j * LABEL_CELLS;
-    if labels[q + LABEL_FLAG] == EXTERNAL {
-        return object_check_blocks::zero_at(blocks, nb, words, marks, w, wide(relocations[i]));
-    }
-    false
+    labels[j * LABEL_CELLS + LABEL_FLAG] == EXTERNAL
+        && object_check_blocks::zero_at(blocks, nb, words, marks, w, relocations[i] as usize)
 }
 
 // Row k lies above the row before.
@@ -43,14 +39,7 @@ fn rises(relocations: &[u32], k: usize) -> bool
     requires { k * 2 + 2 ≤ length relocations.now }
     ensures { Decides (Rises relocations.now k) result }
 {
-    if k == 0 {
-        return true;
-    }
-    let j = k - 1;
-    if relocations[j * RELOCATION_CELLS] < relocations[k * RELOCATION_CELLS] {
-        return true;
-    }
-    false
+    k == 0 || relocations[(k - 1) * RELOCATION_CELLS] < relocations[k * RELOCATION_CELLS]
 }
 
 // The n relocation rows rise by address, each at a set word 0 and naming an external.
@@ -74,17 +63,11 @@ pub fn check_relocations(
     if relocations.len() < n * RELOCATION_CELLS {
         return false;
     }
-    let mut k = 0;
-    while k < n {
-        let row = check_relocation(blocks, nb, words, marks, w, labels, m, relocations, k);
-        let up = rises(relocations, k);
-        if row {
-            if up {
-                k += 1;
-            } else {
-                return false;
-            }
-        } else {
+    for k in 0..n {
+        if !check_relocation(blocks, nb, words, marks, w, labels, m, relocations, k) {
+            return false;
+        }
+        if !rises(relocations, k) {
             return false;
         }
     }

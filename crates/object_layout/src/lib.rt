@@ -16,10 +16,10 @@ pub fn clear(
 )
     ensures { six blocks.new words.new marks.new labels.new relocations.new names.new ≡ layout nothing (six blocks.old words.old marks.old labels.old relocations.old names.old) }
 {
-    base_buffers::zero_u16(blocks);
-    base_buffers::zero_u16(words);
-    base_buffers::zero_u8(marks);
-    base_buffers::zero_u32(labels);
-    base_buffers::zero_u32(relocations);
-    base_buffers::zero_u8(names);
+    base_buffers::clear(blocks, 0);
+    base_buffers::clear(words, 0);
+    base_buffers::clear(marks, 0);
+    base_buffers::clear(labels, 0);
+    base_buffers::clear(relocations, 0);
+    base_buffers::clear(names, 0);
 }

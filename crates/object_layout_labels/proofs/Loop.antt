@@ -1,16 +1,15 @@
 -- What the loop that lays labels keeps, and what the clearing before it leaves. Assumes nothing.
-use mathlib.Core.Path.{◌≡◌, refl, sym, ◌∙◌, ap}
-use mathlib.Core.List.{List, map}
+use mathlib.Core.Path.{◌≡◌, sym, ◌∙◌, ap}
+use mathlib.Core.List.{List}
 use Prim.Native.Nat.{ℕ, ◌+◌, ◌*◌, ◌≤◌, ◌<◌}
 use native.Mathlib.Omega.{arith}
 use lib.ListN.{length, get_or, length-replicate}
-use Rattle.rules.specs.Tokens.{upper}
 use Rattle.rules.specs.Tables.{Table}
 use Rattle.rules.specs.Objects.{Lab, address_of, Name}
 use Rattle.rules.specs.Buffers.{tab, zeros, lay, flag_of, name_row, lab_row, name_bytes, label_cells}
-use Rattle.rules.proofs.Rows.{tab-more, lay-nil}
+use Rattle.rules.proofs.Rows.{tab-more}
 use Rattle.object.specs.Slots.{upper_name, upper_row}
-use Rattle.object_layout_labels.specs.Laying.{Blank, RowRoom, PutLabel, Layable, LabelRoom, upper_labels, LaidLabels}
+use Rattle.object_layout_labels.specs.Laying.{Blank, PutLabel, Layable, LabelRoom, upper_labels, LaidLabels}
 use Rattle.object_layout_labels.proofs.Rows.{put-at, lab-cells, long, Standing, standing-more}
 
 pub record Laying (n : ℕ) (bs rs ls₀ ns₀ ols obs : List ℕ) (k at : ℕ) : Type 0 where
@@ -19,20 +18,6 @@ pub record Laying (n : ℕ) (bs rs ls₀ ns₀ ols obs : List ℕ) (k at : ℕ) 
   pub rows : length ols ≡ length ls₀
   pub names : length obs ≡ length ns₀
   pub standing : Standing (tab k (upper_row rs bs)) ls₀ ns₀ ols obs k at
-
-pub laying-none : {n : ℕ} {bs rs ols obs : List ℕ} → Blank ols → Blank obs → Laying n bs rs ols obs ols obs 0 0
-laying-none {ols = ols} {obs = obs} p q = record {
-  within = omega arith;
-  small = omega arith;
-  rows = refl;
-  names = refl;
-  standing = record { count = refl; end = refl; rows = p.zero ∙ sym (lay-nil (length ols)); names = q.zero ∙ sym (lay-nil (length obs)) };
-}
-
-pub laying-room : {n k at : ℕ} {bs rs ls₀ ns₀ ols obs : List ℕ} → Laying n bs rs ls₀ ns₀ ols obs k at → Layable rs bs n → LabelRoom n ls₀ ns₀ → k < n → RowRoom ols obs k at (name_row rs bs k)
-laying-room {k = k} {bs = bs} {rs = rs} c v r l =
-    let s = v.small k l in
-    record { row = omega (arith, r.rows, c.rows); place = omega (arith, r.names, c.names, c.small); small = omega (arith, v.few, c.small) }
 
 pub laying-more : {n k at r : ℕ} {bs rs ls₀ ns₀ ols obs ols' obs' : List ℕ} → Laying n bs rs ls₀ ns₀ ols obs k at → Layable rs bs n → LabelRoom n ls₀ ns₀ → k < n
     → PutLabel ols obs ols' obs' k at (get_or rs (k * 4) 0) (get_or rs (k * 4 + 1) 0) (upper_name rs bs k) r → length ols' ≡ length ols → length obs' ≡ length obs → Laying n bs rs ls₀ ns₀ ols' obs' (k + 1) r
@@ -57,16 +42,6 @@ laying-all {n} {k} {bs = bs} {rs = rs} {ls₀ = ls₀} {ns₀ = ns₀} c l =
       rows = c.standing.rows ∙ ap (λ (x : ℕ). lay (label_cells 0 (tab x (upper_row rs bs))) (length ls₀)) e;
       names = c.standing.names ∙ ap (λ (x : ℕ). lay (name_bytes (tab x (upper_row rs bs))) (length ns₀)) e;
     }
-
-pub put_same : {ls ns ls' ns' : List ℕ} {k at a f r : ℕ} (x m : List ℕ) → PutLabel ls ns ls' ns' k at a f (map upper x) r → x ≡ m → PutLabel ls ns ls' ns' k at a f (map upper m) r
-put_same x m p e = rw e at p
-
--- the room, at an equal name
-pub room_as : {ls ns : List ℕ} {k at : ℕ} {m m' : List ℕ} → m ≡ m' → RowRoom ls ns k at m' → RowRoom ls ns k at m
-room_as e r = rw e r
-
-pub laying-in : {n k : ℕ} {rs bs : List ℕ} → Layable rs bs n → k < n → k * 4 + 4 ≤ length rs
-laying-in v l = omega (arith, v.room)
 
 -- AFTER THE CLEARING
 length-zeros : (n : ℕ) → length (zeros n) ≡ n

@@ -1,7 +1,7 @@
 -- A row of four stores, a name in upper case, and a table longer by a label. Assumes nothing.
 use mathlib.Core.Path.{◌≡◌, refl, sym, ◌∙◌, ap}
 use mathlib.Core.List.{List, [], ◌∷◌, ◌++◌, map, append_assoc, append-nil}
-use Prim.Native.Nat.{ℕ, zero, suc, ◌+◌, ◌-◌, ◌*◌, ◌≤◌, ◌<◌}
+use Prim.Native.Nat.{ℕ, zero, suc, ◌+◌, ◌*◌, ◌≤◌, ◌<◌}
 use native.Mathlib.Omega.{arith}
 use lib.ListN.{length, get_or, set, length-append, length-map}
 use lib.Seq.{paste, sets-eq}
@@ -10,7 +10,7 @@ use Rattle.rules.specs.Tables.{Table}
 use Rattle.rules.specs.Objects.{Lab, address_of, Name}
 use Rattle.rules.specs.Buffers.{lay, flag_of, lab_from, name_bytes, label_cells}
 use Rattle.rules.proofs.Rows.{lay-more}
-use Rattle.base_buffers.proofs.Pasted.{Pasted, pasted-none, pasted-more, pasted-all}
+use Rattle.base_buffers.proofs.Pasted.{Pasted, pasted-more}
 use Rattle.object_layout_labels.specs.Laying.{row_cells, PutLabel}
 
 four : (l : List ℕ) (i a f p q : ℕ) → i + 4 ≤ length l → set (set (set (set l i a) (i + 1) f) (i + 2) p) (i + 3) q ≡ paste l i (row_cells a f p q) 4
@@ -48,22 +48,11 @@ pub record Upped (d₀ : List ℕ) (at : ℕ) (s d : List ℕ) (i : ℕ) : Type 
   pub size : length d ≡ length d₀
   pub here : Pasted d₀ at (map upper s) d i
 
-pub upped-none : (d : List ℕ) (at : ℕ) (s : List ℕ) → Upped d at s d 0
-upped-none d at s = record { within = omega arith; size = refl; here = pasted-none d at (map upper s) }
-
 pub upped-more : {d₀ s d : List ℕ} {at i x : ℕ} → Upped d₀ at s d i → at + length s ≤ length d₀ → i < length s → x ≡ upper (get_or s i 0) → Upped d₀ at s (set d (at + i) x) (i + 1)
 upped-more {d₀} {s} {d} {at} {i} {x} p room l e =
     let q : Pasted d₀ at (map upper s) (set d (at + i) (get_or (map upper s) i 0)) (i + 1) = pasted-more p.here (omega (arith, long s)) (omega (arith, long s)) in
     let r : Pasted d₀ at (map upper s) (set d (at + i) x) (i + 1) = rw (at_i s i l ∙ sym e) at q in
     record { within = omega arith; size = r.size; here = r }
-
-pub upped-all : {d₀ s d : List ℕ} {at i : ℕ} → Upped d₀ at s d i → length s ≤ i → d ≡ paste d₀ at (map upper s) (length (map upper s))
-upped-all {s = s} p l = pasted-all p.here (omega (arith, long s))
-
--- the row, with the length of the name as it stands in the source
-pub upped-done : {ls ns ls' ns' : List ℕ} {k at a f : ℕ} (m : List ℕ) → ls' ≡ paste ls (k * 4) (row_cells a f at (length m)) 4 → ns' ≡ paste ns at (map upper m) (length (map upper m))
-    → PutLabel ls ns ls' ns' k at a f (map upper m) (at + length m)
-upped-done m e b = let z = long m in record { row = rw z e; bytes = b; next = omega arith }
 
 -- LAYOUT, a label at a time
 

@@ -9,7 +9,6 @@ ghost use Rattle.object.specs.Slots.{upper_name};
 ghost use Rattle.object_layout_labels.specs.Laying.{Blank, row_cells, RowRoom, PutLabel, Layable, LabelRoom, upper_labels, LaidLabels};
 
 use base_capacities::{LABEL_CELLS, LABEL_FLAG, NAME_LENGTH, NAME_START};
-use base_casts::narrow;
 
 // The address that an external has in its row.
 pub const NO_ADDRESS: u32 = 0;
@@ -19,11 +18,8 @@ fn put_upper(dst: &mut [u8], at: usize, src: &[u8])
     requires { at + length src.now ≤ length dst.old }
     ensures { dst.new ≡ paste dst.old at (map upper src.now) (length (map upper src.now)) }
 {
-    let mut i = 0;
-    while i < src.len() {
-        let b = base_text::upper_case(src[i]);
-        dst[at + i] = b;
-        i += 1;
+    for (i, b) in src.iter().enumerate() {
+        dst[at + i] = base_text::upper_case(*b);
     }
 }
 
@@ -35,8 +31,8 @@ fn put_row(labels: &mut [u32], k: usize, address: u32, flag: u32, at: usize, siz
     let i = k * LABEL_CELLS;
     labels[i] = address;
     labels[i + LABEL_FLAG] = flag;
-    labels[i + NAME_START] = narrow(at);
-    labels[i + NAME_LENGTH] = narrow(size);
+    labels[i + NAME_START] = at as u32;
+    labels[i + NAME_LENGTH] = size as u32;
 }
 
 // The label of row k, whose name goes behind `at` name bytes as it stands; the place behind it.
@@ -105,10 +101,8 @@ fn lay_rows(rows: &[u32], bytes: &[u8], n: usize, labels: &mut [u32], names: &mu
     ensures { LaidLabels (upper_labels n rows.now bytes.now) labels.old names.old labels.new names.new }
 {
     let mut at = 0;
-    let mut k = 0;
-    while k < n {
+    for k in 0..n {
         at = lay_label(rows, bytes, k, labels, names, at);
-        k += 1;
     }
 }
 
@@ -117,7 +111,7 @@ pub fn lay_labels(rows: &[u32], bytes: &[u8], n: usize, labels: &mut [u32], name
     requires { Layable rows.now bytes.now n × LabelRoom n labels.old names.old }
     ensures { LaidLabels (upper_labels n rows.now bytes.now) labels.old names.old labels.new names.new }
 {
-    base_buffers::zero_u32(labels);
-    base_buffers::zero_u8(names);
+    base_buffers::clear(labels, 0);
+    base_buffers::clear(names, 0);
     lay_rows(rows, bytes, n, labels, names);
 }

@@ -16,28 +16,32 @@ use Rattle.rules.proofs.Rows.{up_lt}
 use Rattle.rules.specs.Calls.{OfObject, too_short, bad_object, on_object}
 use Rattle.rules.proofs.Calls.{answered-once}
 use Rattle.object_lookup.specs.Told.{said, found, Reversed}
-use Rattle.object_lookup.specs.declared.Said.{Said}
-use Rattle.object_lookup.specs.declared.Said.TheVariants as say
-use Rattle.object_lookup.specs.declared.Found.{Found}
-use Rattle.object_lookup.specs.declared.Found.TheVariants as find
+use Rattle.std.specs.declared.result.Result.{Result}
+use Rattle.std.specs.declared.result.Result.TheVariants.{Ok, Err}
+use Rattle.std.specs.declared.option.Option as O
+use Rattle.std.specs.declared.option.Option.TheVariants.{Some, None}
+use Rattle.object.specs.declared.Label.{Label}
+use Rattle.object.specs.declared.Label.TheVariants.{Defined, External}
+use Rattle.object_check.specs.declared.ObjectErr.{ObjectErr}
+use Rattle.object_check.specs.declared.ObjectErr.TheVariants.{ShortBuffer, BadObject}
 
 -- the answer of an outcome
-back : Outcome (Option Lab) → Said
-back (ok (some (defined a))) = say.Defined a
-back (ok (some outer)) = say.External
-back (ok none) = say.Nothing
-back (refused r) = when eqb r.number 42 then say.ShortBuffer else say.BadObject
+back : Outcome (Option Lab) → Result (O.Option Label) ObjectErr
+back (ok (some (defined a))) = Ok (Some (Defined a))
+back (ok (some outer)) = Ok (Some External)
+back (ok none) = Ok None
+back (refused r) = when eqb r.number 42 then Err ShortBuffer else Err BadObject
 
-back-said : (r : Said) → back (said r) ≡ r
+back-said : (r : Result (O.Option Label) ObjectErr) → back (said r) ≡ r
 unfolding back when◌then◌else◌
-back-said (say.Defined a) = refl
-back-said say.External = refl
-back-said say.Nothing = refl
-back-said say.ShortBuffer = refl
-back-said say.BadObject = refl
+back-said (Ok (Some (Defined a))) = refl
+back-said (Ok (Some External)) = refl
+back-said (Ok None) = refl
+back-said (Err ShortBuffer) = refl
+back-said (Err BadObject) = refl
 
 -- of `lookup_label`
-pub said-once : (c : Counts) (b : Buffers) (m : List ℕ) (r s : Said)
+pub said-once : (c : Counts) (b : Buffers) (m : List ℕ) (r s : Result (O.Option Label) ObjectErr)
     → OfObject c b (ok (lookup_label (view c b) m)) (said r) → OfObject c b (ok (lookup_label (view c b) m)) (said s) → r ≡ s
 said-once c b m r s l k = sym (back-said r) ∙ (ap back (answered-once l k) ∙ back-said s)
 
@@ -57,31 +61,31 @@ number_of (ok a) = 0
 number_of (refused r) = r.number
 
 -- where a row answers, the object is valid
-pub row-valid : {c : Counts} {b : Buffers} {rule : Outcome (Option Name)} (k : ℕ) → OfObject c b rule (found b.labels b.names (find.Row k)) → Valid c b
+pub row-valid : {c : Counts} {b : Buffers} {rule : Outcome (Option Name)} (k : ℕ) → OfObject c b rule (found b.labels b.names (Ok (Some k))) → Valid c b
 row-valid k (too_short p e) = never cc
 row-valid k (bad_object p n e) = never cc
 row-valid k (on_object p v e) = v
 
 -- of `rev_lookup_label`
-pub found-once : (c : Counts) (b : Buffers) (a : ℕ) (r s : Found) → Reversed c b a r → Reversed c b a s → r ≡ s
+pub found-once : (c : Counts) (b : Buffers) (a : ℕ) (r s : Result (O.Option ℕ) ObjectErr) → Reversed c b a r → Reversed c b a s → r ≡ s
 found-once c b a r s x y = go r s x y (answered-once x.name y.name)
   where
-    go : (r s : Found) → Reversed c b a r → Reversed c b a s → found b.labels b.names r ≡ found b.labels b.names s → r ≡ s
-    go (find.Row k) (find.Row j) x y e =
+    go : (r s : Result (O.Option ℕ) ObjectErr) → Reversed c b a r → Reversed c b a s → found b.labels b.names r ≡ found b.labels b.names s → r ≡ s
+    go (Ok (Some k)) (Ok (Some j)) x y e =
         let q : name_row b.labels b.names k ≡ name_row b.labels b.names j = cc in
-        ap find.Row (rows-one (row-valid k x.name).labels k j (x.row k refl) (y.row j refl) q)
-    go (find.Row k) find.Nothing x y e = never cc
-    go (find.Row k) find.ShortBuffer x y e = never cc
-    go (find.Row k) find.BadObject x y e = never cc
-    go find.Nothing (find.Row j) x y e = never cc
-    go find.Nothing find.Nothing x y e = refl
-    go find.Nothing find.ShortBuffer x y e = never cc
-    go find.Nothing find.BadObject x y e = never cc
-    go find.ShortBuffer (find.Row j) x y e = never cc
-    go find.ShortBuffer find.Nothing x y e = never cc
-    go find.ShortBuffer find.ShortBuffer x y e = refl
-    go find.ShortBuffer find.BadObject x y e = absurd (omega (arith, ap number_of e))
-    go find.BadObject (find.Row j) x y e = never cc
-    go find.BadObject find.Nothing x y e = never cc
-    go find.BadObject find.ShortBuffer x y e = absurd (omega (arith, ap number_of e))
-    go find.BadObject find.BadObject x y e = refl
+        ap (λ (m : ℕ). Ok (Some m)) (rows-one (row-valid k x.name).labels k j (x.row k refl) (y.row j refl) q)
+    go (Ok (Some k)) (Ok None) x y e = never cc
+    go (Ok (Some k)) (Err ShortBuffer) x y e = never cc
+    go (Ok (Some k)) (Err BadObject) x y e = never cc
+    go (Ok None) (Ok (Some j)) x y e = never cc
+    go (Ok None) (Ok None) x y e = refl
+    go (Ok None) (Err ShortBuffer) x y e = never cc
+    go (Ok None) (Err BadObject) x y e = never cc
+    go (Err ShortBuffer) (Ok (Some j)) x y e = never cc
+    go (Err ShortBuffer) (Ok None) x y e = never cc
+    go (Err ShortBuffer) (Err ShortBuffer) x y e = refl
+    go (Err ShortBuffer) (Err BadObject) x y e = absurd (omega (arith, ap number_of e))
+    go (Err BadObject) (Ok (Some j)) x y e = never cc
+    go (Err BadObject) (Ok None) x y e = never cc
+    go (Err BadObject) (Err ShortBuffer) x y e = absurd (omega (arith, ap number_of e))
+    go (Err BadObject) (Err BadObject) x y e = refl

@@ -3,7 +3,7 @@ use mathlib.Core.Path.{◌≡◌, refl, sym, ◌∙◌, ap}
 use mathlib.Core.Bool.{Bool, true, false, ◌&&◌}
 use mathlib.Core.Option.{Option, none, some}
 use mathlib.Core.List.{List, [], ◌∷◌, map}
-use Prim.Native.Nat.{ℕ, suc, ◌+◌, ◌-◌, ◌≤◌, ◌<◌}
+use Prim.Native.Nat.{ℕ, suc, ◌+◌, ◌≤◌, ◌<◌}
 use native.Mathlib.Omega.{arith}
 use lib.Dec.{eqb}
 use lib.ListN.{length, take, drop}
@@ -20,11 +20,9 @@ use Rattle.rules.proofs.Next.{here, here-blank, next_here, next-end, next-induct
 use Rattle.lex_reserved.specs.Ident.{place_from, ident_of}
 use Rattle.lex_reserved.specs.declared.Ident.TheVariants as ident
 use Rattle.lex_token.specs.Coded.{marked, coded_as, coded}
-use Rattle.lex_token.specs.declared.Token as tokens
 use Rattle.lex_token.specs.declared.Token.TheVariants as tok
-use Rattle.lex_token.specs.declared.Next.{Next}
-use Rattle.lex_token.specs.declared.Next.TheVariants.{Took, End, Refused}
-use Rattle.object_names.specs.Whole.{is_label, label_kind, whole_label}
+use Rattle.lex_token.specs.declared.Next.TheVariants.{Took, End}
+use Rattle.object_names.specs.Whole.{is_label, whole_label}
 
 pub no-right : (b : Bool) → (b && false) ≡ false
 no-right true = refl
@@ -166,13 +164,3 @@ name-fits l h e f = (λ i. e i && f i) ∙ (token-law l ∙ sym (ap (λ (b : Boo
     with : (b : Bool) → (b && true) ≡ b
     with true = refl
     with false = refl
-
-module _ (l : List ℕ) {n : Next} (h : n ≡ coded (next_token l 0)) where
-  pub whole-took : {t : tokens.Token} {a e : ℕ} {p : Bool} → n ≡ Took t a e → p ≡ label_kind t → (p && eqb a 0 && eqb e (length l)) ≡ whole_label l (coded (next_token l 0))
-  whole-took {t} {a} {e} q r = ap (λ (b : Bool). b && eqb a 0 && eqb e (length l)) r ∙ ap (whole_label l) (sym q ∙ h)
-
-  pub whole-end : {i : ℕ} → n ≡ End i → false ≡ whole_label l (coded (next_token l 0))
-  whole-end q = ap (whole_label l) (sym q ∙ h)
-
-  pub whole-refused : {m a e : ℕ} → n ≡ Refused m a e → false ≡ whole_label l (coded (next_token l 0))
-  whole-refused q = ap (whole_label l) (sym q ∙ h)

@@ -9,7 +9,7 @@ use lib.ListN.{length, get_or, take, drop, length-drop, take-append-drop}
 use lib.Seq.{drop-drop, take_all, take-add}
 use borrow.Author.Tests.{eqb-true, eq-eqb, ne_eqb, leb-true, le-leb, lt-leb}
 use Rattle.rules.specs.Base.{when◌then◌else◌, is, within, same}
-use Rattle.rules.specs.Tokens.{token, digit, letter, wordy, upper, while, word_at, token_at}
+use Rattle.rules.specs.Tokens.{digit, letter, wordy, upper, while, word_at, token_at}
 use Rattle.rules.specs.Objects.{label_token, good_name}
 use Rattle.rules.proofs.Bools.{never, and_left, and_right}
 use Rattle.base_text.specs.Runs.{from}
@@ -79,10 +79,6 @@ module _ (s : List ℕ) {i : ℕ} (f : CapitalTo s i) where
   pub to_end : {x : Bool} → x ≡ all_capital (take (length s - i) (drop i s)) → x ≡ all_capital s
   unfolding from
   to_end p = p ∙ (ap all_capital (take_all (length s - i) (drop i s) (omega (arith, length-drop i s))) ∙ f.same)
-
--- the front
-pub front-none : (s : List ℕ) → CapitalFront s 0
-front-none s = record { within = omega arith; front = refl }
 
 take-join : (s : List ℕ) (i e : ℕ) → i ≤ e → take e s ≡ take i s ++ take (e - i) (drop i s)
 take-join s i e l = let k : e ≡ i + (e - i) = omega arith in ap (λ (n : ℕ). take n s) k ∙ take-add i (e - i) s
@@ -203,18 +199,6 @@ pub plain-told : (l : List ℕ) {x : Bool} → length l ≤ 64 → x ≡ plain l
 plain-told l h p e = plain-good l h (sym p ∙ e)
 
 -- THE ANSWERS, by the first byte
-
-pub plain-none : (l : List ℕ) → length l ≡ 0 → false ≡ plain l
-plain-none [] h = refl
-plain-none (c ∷ s) h = absurd (omega arith)
-
-pub plain_other : (l : List ℕ) {x : Bool} → (length l ≡ 0 → ⊥) → x ≡ beginning (get_or l 0 0) → x ≡ false → false ≡ plain l
-plain_other [] h p e = absurd (h refl)
-plain_other (c ∷ s) h p e = rw (sym p ∙ e) refl
-
-pub plain-mixed : (l : List ℕ) {x y : Bool} → (length l ≡ 0 → ⊥) → x ≡ beginning (get_or l 0 0) → x ≡ true → y ≡ all_capital l → y ≡ false → false ≡ plain l
-plain-mixed [] h p e q f = absurd (h refl)
-plain-mixed (c ∷ s) h p e q f = rw (sym p ∙ e, sym q ∙ f) refl
 
 pub plain_word : (l : List ℕ) {x y z : Bool} {i : Ident} → (length l ≡ 0 → ⊥) → x ≡ beginning (get_or l 0 0) → x ≡ true → y ≡ all_capital l → y ≡ true
     → i ≡ ident_of (map upper l) → z ≡ is_label i → z ≡ plain l

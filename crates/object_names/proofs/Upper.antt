@@ -1,29 +1,33 @@
--- What the loop of `is_upper` keeps. Assumes nothing.
-use mathlib.Core.Path.{◌≡◌, sym, ◌∙◌, ap}
-use mathlib.Core.Bool.{Bool, true, false, ◌&&◌}
-use mathlib.Core.List.{List, map}
-use Prim.Native.Nat.{ℕ, ◌+◌, ◌≤◌, ◌<◌}
+-- A name is in upper case where each of its bytes is. Assumes nothing.
+use mathlib.Core.Path.{◌≡◌, refl}
+use mathlib.Core.Bool.{Bool, true, false}
+use mathlib.Core.List.{List, [], ◌∷◌, map}
+use Prim.Native.Nat.{ℕ, zero, suc}
+use native.Mathlib.Omega.{arith}
 use lib.Dec.{eqb}
-use lib.ListN.{length, get_or}
-use borrow.Author.Tests.{eq-eqb, ne_eqb}
+use lib.ListN.{get_or}
+use borrow.Author.Tests.{eqb-true, eq-eqb}
+use Rattle.std.proofs.Common.{◌↔◌, IsTrue, EachIndex}
 use Rattle.rules.specs.Base.{same}
 use Rattle.rules.specs.Tokens.{upper}
-use Rattle.base_text.specs.Runs.{from}
-use Rattle.base_text.proofs.Rest.{from_step, from_end}
+use Rattle.rules.proofs.Bools.{and_left, and_right}
 
-abbrev pub all_upper : List ℕ → Bool
+abbrev all_upper : List ℕ → Bool
 all_upper s = same s (map upper s)
 
-module _ (s : List ℕ) {i : ℕ} {z : Bool} (g : all_upper (from s i) ≡ z) where
-  step : (h : i < length s) → all_upper (from s i) ≡ (eqb (get_or s i 0) (upper (get_or s i 0)) && all_upper (from s (i + 1)))
-  step h = ap all_upper (from_step s i h)
+each-same : (s : List ℕ) → EachIndex s (λ k. get_or s k 0 ≡ upper (get_or s k 0)) → true ≡ all_upper s
+each-same [] h = refl
+each-same (c ∷ s) h = rw (eq-eqb c (upper c) (h 0 (omega arith))) (each-same s (λ k l. h (suc k) (omega arith)))
 
-  pub upper-go : {x : ℕ} → i < length s → x ≡ upper (get_or s i 0) → get_or s i 0 ≡ x → all_upper (from s (i + 1)) ≡ z
-  upper-go h p e = sym (step h ∙ ap (λ (b : Bool). b && all_upper (from s (i + 1))) (eq-eqb _ _ (e ∙ p))) ∙ g
+same-each : (s : List ℕ) → all_upper s ≡ true → EachIndex s (λ k. get_or s k 0 ≡ upper (get_or s k 0))
+same-each [] e k l = absurd (omega arith)
+same-each (c ∷ s) e zero l = eqb-true c (upper c) (and_left (eqb c (upper c)) (all_upper s) e)
+same-each (c ∷ s) e (suc k) l = same-each s (and_right (eqb c (upper c)) (all_upper s) e) k (omega arith)
 
-  pub upper-stop : {x : ℕ} → i < length s → x ≡ upper (get_or s i 0) → (get_or s i 0 ≡ x → ⊥) → false ≡ z
-  upper-stop h p n =
-      sym (step h ∙ ap (λ (b : Bool). b && all_upper (from s (i + 1))) (ne_eqb _ _ (λ (e : get_or s i 0 ≡ upper (get_or s i 0)). n (e ∙ sym p)))) ∙ g
-
-  pub upper-end : length s ≤ i → true ≡ z
-  upper-end h = sym (ap all_upper (from_end s i h)) ∙ g
+pub upper-told : (s : List ℕ) (r : Bool) → IsTrue r ↔ EachIndex s (λ k. get_or s k 0 ≡ upper (get_or s k 0)) → r ≡ same s (map upper s)
+upper-told s true h = each-same s (h.0 refl)
+upper-told s false h = go (all_upper s) refl
+  where
+    go : (b : Bool) → all_upper s ≡ b → false ≡ b
+    go true e = h.1 (same-each s e)
+    go false e = refl

@@ -16,10 +16,7 @@ use lex_token::{Next, Token};
 fn is_free(ident: Ident) -> bool
     ensures { result ≡ is_label ident }
 {
-    match ident {
-        Ident::Label => true,
-        Ident::Reserved(_) => false,
-    }
+    matches!(ident, Ident::Label)
 }
 
 fn label_kind(token: Token) -> bool
@@ -57,15 +54,7 @@ fn whole_label(name: &[u8]) -> bool
 fn is_upper(name: &[u8]) -> bool
     ensures { result ≡ same name.now (map upper name.now) }
 {
-    let mut i = 0;
-    while i < name.len() {
-        if name[i] == base_text::upper_case(name[i]) {
-            i += 1;
-        } else {
-            return false;
-        }
-    }
-    true
+    name.iter().all(|b| *b == base_text::upper_case(*b))
 }
 
 // A capital letter, a digit or the underscore.
@@ -92,10 +81,8 @@ fn capital_part(part: &[u8]) -> bool
     ensures { result ≡ all_capital part.now }
 {
     let mut good = true;
-    let mut i = 0;
-    while i < part.len() {
-        good = good & is_capital(part[i]);
-        i += 1;
+    for b in part {
+        good &= is_capital(*b);
     }
     good
 }
@@ -105,6 +92,7 @@ pub fn capital_front(names: &[u8]) -> usize
     ensures { CapitalFront names.now result }
 {
     let mut i = 0;
+    // A while: steps of 64 bytes, as long as so many are left.
     while STRIDE <= names.len() - i {
         let stop = i + STRIDE;
         if capital_part(&names[i..stop]) {
@@ -121,6 +109,7 @@ fn all_capital(name: &[u8]) -> bool
     ensures { result ≡ all_capital name.now }
 {
     let mut i = 0;
+    // A while: steps of 8 bytes, as long as so many are left.
     while STEP <= name.len() - i {
         let stop = i + STEP;
         if capital_part(&name[i..stop]) {

@@ -1,4 +1,11 @@
 -- A statement by its first token: the code's reading is the rules'. Assumes nothing.
+use Rattle.parse.specs.declared.Statement.{Statement}
+use Rattle.std.specs.declared.result.Result.{Result}
+use Rattle.std.specs.declared.result.Result.TheVariants.{Ok, Err}
+use Rattle.std.specs.declared.option.Option as O
+use Rattle.std.specs.declared.option.Option.TheVariants.{Some, None}
+use Rattle.base_refusals.specs.declared.Fault.{Fault}
+use Rattle.base_refusals.specs.Refusals.{fault}
 use Prim.Native.Nat.{ℕ, zero, suc, ◌+◌, ◌-◌, ◌≤◌, ◌<◌}
 use mathlib.Core.Path.{◌≡◌, refl, sym, ◌∙◌, ap}
 use mathlib.Core.Bool.{Bool, true, false, ◌&&◌, not}
@@ -23,8 +30,6 @@ use Rattle.parse_labels.specs.declared.Walk.{Walk}
 use Rattle.parse_labels.specs.Walk.{Walked}
 use Rattle.parse_rows.specs.Rows.{code_from}
 use Rattle.parse_rows.proofs.Rule.{instruction-means, code-ge, Found, directive-found, directive-missed}
-use Rattle.parse.specs.declared.NextStatement.{NextStatement}
-use Rattle.parse.specs.declared.NextStatement.TheVariants.{End, Refused}
 use Rattle.parse.specs.Coded.{coded_statement, unfit_at, code_step, is_bare, other_of, code_at, headless_at}
 use Rattle.parse.proofs.Reading.{code-coded, instr-row}
 
@@ -65,13 +70,13 @@ module _ (s : List ℕ) (t : Lexeme) where
   code-none a b = rw (ne_eqb t.sort 5 a, ne_eqb t.sort 6 b)
 
 -- NO ROW
-module _ (b : Bool) (t : Lexeme) (r : NextStatement) where
-  pub headless-long : t.sort ≡ 3 → r ≡ Refused 16 t.start t.end → r ≡ headless_at b t
+module _ (b : Bool) (t : Lexeme) (r : Result (O.Option Statement) Fault) where
+  pub headless-long : t.sort ≡ 3 → r ≡ Err (fault 16 t.start t.end) → r ≡ headless_at b t
   unfolding headless_at when◌then◌else◌
   headless-long e f = rw (eq-eqb t.sort 3 e) f
 
   module _ (n : t.sort ≡ 3 → ⊥) where
-    pub headless-labels : t.sort ≡ 10 → b ≡ true → r ≡ Refused 13 t.start t.end → r ≡ headless_at b t
+    pub headless-labels : t.sort ≡ 10 → b ≡ true → r ≡ Err (fault 13 t.start t.end) → r ≡ headless_at b t
     unfolding headless_at when◌then◌else◌
     headless-labels e x f = rw (ne_eqb t.sort 3 n, eq-eqb t.sort 10 e, x) f
 
@@ -79,7 +84,7 @@ module _ (b : Bool) (t : Lexeme) (r : NextStatement) where
     unfolding headless_at when◌then◌else◌
     headless-unfit e f = rw (ne_eqb t.sort 3 n, ne_eqb t.sort 10 e) f
 
-pub headless-end : (b : Bool) (t : Lexeme) → (t.sort ≡ 3 → ⊥) → t.sort ≡ 10 → b ≡ false → End ≡ headless_at b t
+pub headless-end : (b : Bool) (t : Lexeme) → (t.sort ≡ 3 → ⊥) → t.sort ≡ 10 → b ≡ false → Ok None ≡ headless_at b t
 unfolding headless_at when◌then◌else◌
 headless-end b t n e x = rw (ne_eqb t.sort 3 n, eq-eqb t.sort 10 e, x)
 
@@ -113,7 +118,7 @@ module _ (s : List ℕ) (t : Lexeme) where
   not-word (suc (suc (suc (suc (suc (suc (suc (suc (suc zero))))))))) n m = refl
   not-word (suc (suc (suc (suc (suc (suc (suc (suc (suc (suc k)))))))))) n m = refl
 
-module _ (s : List ℕ) (i : ℕ) (w : Walk) (r : NextStatement) (k : Walked s i w) where
+module _ (s : List ℕ) (i : ℕ) (w : Walk) (r : Result (O.Option Statement) Fault) (k : Walked s i w) where
   abbrev t : Lexeme
   t = w.token
 
@@ -162,7 +167,7 @@ module _ (s : List ℕ) (i : ℕ) (w : Walk) (r : NextStatement) (k : Walked s i
         ∙ code-coded s (labels_at s i) w.labelled k.labelled (directive n) code d.row d.means 14 t.start t.end false
         ∙ ap coded_statement (sym (q ∙ rw (d.is, need)))
 
-    head-unknown : t.sort ≡ 6 → 38 ≤ code → r ≡ Refused 13 t.start t.end → Answer
+    head-unknown : t.sort ≡ 6 → 38 ≤ code → r ≡ Err (fault 13 t.start t.end) → Answer
     unfolding token_read as_directive kind_at need coded_statement
     head-unknown e l f =
         let n = map upper (part s (t.start + 1) t.end) in
@@ -170,7 +175,7 @@ module _ (s : List ℕ) (i : ℕ) (w : Walk) (r : NextStatement) (k : Walked s i
         let u : next_statement s i ≡ refuse 13 (span t.start t.end) = q ∙ rw (directive-missed n code (dot-code e) l, need) in
         f ∙ ap coded_statement (sym u)
 
-  head-label : t.sort ≡ 3 → r ≡ Refused 16 t.start t.end → Answer
+  head-label : t.sort ≡ 3 → r ≡ Err (fault 16 t.start t.end) → Answer
   unfolding token_read as_directive as_word coded_statement
   head-label e f =
       let q : next_statement s i ≡ token_read s (labels_at s i) (token_in (word (name_of s t)) (span t.start t.end)) = at-token (omega arith) ∙ rw e in
@@ -186,13 +191,13 @@ module _ (s : List ℕ) (i : ℕ) (w : Walk) (r : NextStatement) (k : Walked s i
         let w : as_word (kind_by s t.sort t) ≡ none = not-word s t t.sort c a in
         at-token l ∙ rw (d, w, token_read, end-sort s t t.sort l)
 
-  head-end : t.sort ≡ 10 → r ≡ (when w.labelled then Refused 13 t.start t.end else End) → Answer
+  head-end : t.sort ≡ 10 → r ≡ (when w.labelled then Err (fault 13 t.start t.end) else Ok None) → Answer
   unfolding coded_statement when◌then◌else◌
   head-end e f =
       let u : next_statement s i ≡ (when eqb (length (labels_at s i)) 0 then ok none else refuse 13 (span t.start t.end)) = other-token (omega arith) (λ (x : t.sort ≡ 5). omega arith) (λ (x : t.sort ≡ 6). omega arith) (λ (x : t.sort ≡ 3). omega arith) ∙ rw (eq-eqb t.sort 10 e) in
       f ∙ rw (k.labelled, u) (go (eqb (length (labels_at s i)) 0))
     where
-      go : (b : Bool) → (when not b then Refused 13 t.start t.end else End) ≡ coded_statement (when b then ok none else refuse 13 (span t.start t.end))
+      go : (b : Bool) → (when not b then Err (fault 13 t.start t.end) else Ok None) ≡ coded_statement (when b then ok none else refuse 13 (span t.start t.end))
       go true = refl
       go false = refl
 

@@ -1,4 +1,11 @@
 -- A statement by its row: the code's reading is the rules'. Assumes nothing.
+use Rattle.parse.specs.declared.Statement.{Statement}
+use Rattle.std.specs.declared.result.Result.{Result}
+use Rattle.std.specs.declared.result.Result.TheVariants.{Ok, Err}
+use Rattle.std.specs.declared.option.Option as O
+use Rattle.std.specs.declared.option.Option.TheVariants.{Some, None}
+use Rattle.base_refusals.specs.declared.Fault.{Fault}
+use Rattle.base_refusals.specs.Refusals.{fault}
 use Prim.Native.Nat.{ℕ, ◌+◌, ◌<◌}
 use mathlib.Core.Path.{◌≡◌, refl, sym, ◌∙◌, ap}
 use mathlib.Core.Bool.{Bool, true, false, ◌&&◌, ◌||◌, not}
@@ -25,8 +32,6 @@ use Rattle.lex.specs.Sorts.{kind_by, no_row, Stands, NoFault}
 use Rattle.lex.proofs.Marks.{line-sort, end-sort}
 use Rattle.lex.proofs.Peek.{stands_from, peek-from, peek}
 use Rattle.parse_field.specs.declared.Given.{Given}
-use Rattle.parse_field.specs.declared.Step.{Step}
-use Rattle.parse_field.specs.declared.Step.TheVariants as step
 use Rattle.parse_rows.specs.declared.Op.{Op}
 use Rattle.parse_rows.specs.declared.Op.TheVariants.{Instr, Orig, Fill, Blkw, Stringz, External}
 use Rattle.parse_rows.specs.declared.Op.TheVariants as op
@@ -34,17 +39,14 @@ use Rattle.parse_rows.specs.declared.Row.{Row}
 use Rattle.parse_rows.specs.Rows.{fields_by, op_of, row_at, Means}
 use Rattle.parse_rows.proofs.Rule.{instruction-means, nop-zero}
 use Rattle.parse_operands.specs.Lines.{coded_given, coded_step, line_step}
-use Rattle.parse.specs.declared.NextStatement.{NextStatement}
-use Rattle.parse.specs.declared.NextStatement.TheVariants.{Refused}
-use Rattle.parse.specs.declared.NextStatement.TheVariants as next
 use Rattle.parse.specs.Coded.{coded_op, coded_read, coded_statement, unfit_at, made, ended, finished, after, row_step, count_due, code_step, is_bare, other_of}
 
-module _ (t : Lexeme) (r : NextStatement) where
-  pub unfit-own : t.sort ≡ fault_sort → r ≡ Refused t.value t.start t.end → r ≡ unfit_at t
+module _ (t : Lexeme) (r : Result (O.Option Statement) Fault) where
+  pub unfit-own : t.sort ≡ fault_sort → r ≡ Err (fault t.value t.start t.end) → r ≡ unfit_at t
   unfolding unfit_at when◌then◌else◌
   unfit-own e h = rw (eq-eqb _ _ e) h
 
-  pub unfit-other : (t.sort ≡ fault_sort → ⊥) → r ≡ Refused 13 t.start t.end → r ≡ unfit_at t
+  pub unfit-other : (t.sort ≡ fault_sort → ⊥) → r ≡ Err (fault 13 t.start t.end) → r ≡ unfit_at t
   unfolding unfit_at when◌then◌else◌
   unfit-other e h = rw (ne_eqb _ _ e) h
 
@@ -66,24 +68,24 @@ module _ (s : List ℕ) (i : ℕ) (t : Lexeme) (h : Stands s i t) where
       go (no l) = is-refused ends s i _ (h.bad (omega arith)) ∙ sym (rw (ne_eqb t.sort 9 (λ (z : t.sort ≡ 9). omega arith), ne_eqb t.sort 10 (λ (z : t.sort ≡ 10). omega arith)))
 
 -- a line feed, by its byte
-pub finish-feed : (s : List ℕ) (b : Bool) (o : Op) (a : ℕ) (g : Given) (p : ℕ) → p ≡ run_end class.Space s g.stop → (c : ℕ) → c ≡ get_or s p 0 → c ≡ 10 → (r : NextStatement) → r ≡ next.Read (made b o a g (p + 1)) → r ≡ finished s b o a g
+pub finish-feed : (s : List ℕ) (b : Bool) (o : Op) (a : ℕ) (g : Given) (p : ℕ) → p ≡ run_end class.Space s g.stop → (c : ℕ) → c ≡ get_or s p 0 → c ≡ 10 → (r : Result (O.Option Statement) Fault) → r ≡ Ok (Some (made b o a g (p + 1))) → r ≡ finished s b o a g
 unfolding finished ended line_end ends is_mark
 finish-feed s b o a g p e c q x r y =
     let l : line_end s g.stop ≡ ok (p + 1) = rw (peek s g.stop p e 10 (sym x ∙ q) refl, line_end) in
     rw (l, ended) y
 
 -- any other token
-module _ (s : List ℕ) (b : Bool) (o : Op) (a : ℕ) (g : Given) (p : ℕ) (f : p ≡ run_end class.Space s g.stop) (t : Lexeme) (r : NextStatement) (k : Stands s p t) where
+module _ (s : List ℕ) (b : Bool) (o : Op) (a : ℕ) (g : Given) (p : ℕ) (f : p ≡ run_end class.Space s g.stop) (t : Lexeme) (r : Result (O.Option Statement) Fault) (k : Stands s p t) where
   h : Stands s g.stop t
   h = stands_from s g.stop p t (peek-from s g.stop p f) k
 
-  pub finish-line : t.sort ≡ 9 → r ≡ next.Read (made b o a g t.end) → r ≡ finished s b o a g
+  pub finish-line : t.sort ≡ 9 → r ≡ Ok (Some (made b o a g t.end)) → r ≡ finished s b o a g
   unfolding finished ended
   finish-line e q =
       let l : line_end s g.stop ≡ ok t.end = end_token s g.stop t h (omega arith) ∙ rw (eq-eqb t.sort 9 e) in
       rw (l, ended) q
 
-  pub finish-end : (t.sort ≡ 9 → ⊥) → t.sort ≡ 10 → r ≡ next.Read (made b o a g t.end) → r ≡ finished s b o a g
+  pub finish-end : (t.sort ≡ 9 → ⊥) → t.sort ≡ 10 → r ≡ Ok (Some (made b o a g t.end)) → r ≡ finished s b o a g
   unfolding finished ended
   finish-end n e q =
       let l : line_end s g.stop ≡ ok t.end = end_token s g.stop t h (omega arith) ∙ rw (ne_eqb t.sort 9 n, eq-eqb t.sort 10 e) in
@@ -103,14 +105,14 @@ module _ (s : List ℕ) (b : Bool) (o : Op) (a : ℕ) (g : Given) (p : ℕ) (f :
           rw (l, ended) (rw (eq-eqb t.sort fault_sort z) at q)
 
 -- A ROW
-module _ (s : List ℕ) (b : Bool) (o : Op) (fs : List words.Field) (other w a e : ℕ) (x : Step) (h : x ≡ line_step s fs other w e) (r : NextStatement) where
-  pub row-took : (g : Given) → x ≡ step.Took g → r ≡ finished s b o a g → r ≡ row_step s b o fs other w a e
+module _ (s : List ℕ) (b : Bool) (o : Op) (fs : List words.Field) (other w a e : ℕ) (x : Result Given Fault) (h : x ≡ line_step s fs other w e) (r : Result (O.Option Statement) Fault) where
+  pub row-took : (g : Given) → x ≡ Ok g → r ≡ finished s b o a g → r ≡ row_step s b o fs other w a e
   unfolding row_step after
-  row-took g p q = let z : line_step s fs other w e ≡ step.Took g = sym h ∙ p in rw (z, after) q
+  row-took g p q = let z : line_step s fs other w e ≡ Ok g = sym h ∙ p in rw (z, after) q
 
-  pub row-refused : (n j i : ℕ) → x ≡ step.Refused n j i → r ≡ Refused n j i → r ≡ row_step s b o fs other w a e
+  pub row-refused : (f : Fault) → x ≡ Err f → r ≡ Err f → r ≡ row_step s b o fs other w a e
   unfolding row_step after
-  row-refused n j i p q = let z : line_step s fs other w e ≡ step.Refused n j i = sym h ∙ p in rw (z, after) q
+  row-refused f p q = let z : line_step s fs other w e ≡ Err f = sym h ∙ p in rw (z, after) q
 
 op-back : (o : Op) (p : words.Op) → op_of o ≡ p → o ≡ coded_op p
 op-back o p e = go o ∙ ap coded_op e
@@ -138,16 +140,16 @@ module _ (s : List ℕ) (ls : List Name) (b : Bool) (l : b ≡ not (eqb (length 
       by-given (refused x) = refl
 
 -- THE ROW AT A PLACE OF THE TABLE
-module _ (s : List ℕ) (b : Bool) (code : ℕ) (bare : Bool) (other a e : ℕ) (c : Row) (p : c ≡ row_at code) (n : ℕ) (q : n ≡ count_due c.count bare) (x : Step) (h : x ≡ line_step s (fields_by n c.first c.second c.third) other c.base e) (r : NextStatement) where
+module _ (s : List ℕ) (b : Bool) (code : ℕ) (bare : Bool) (other a e : ℕ) (c : Row) (p : c ≡ row_at code) (n : ℕ) (q : n ≡ count_due c.count bare) (x : Result Given Fault) (h : x ≡ line_step s (fields_by n c.first c.second c.third) other c.base e) (r : Result (O.Option Statement) Fault) where
   is-step : row_step s b c.op (fields_by n c.first c.second c.third) other c.base a e ≡ code_step s b code bare other a e
   unfolding code_step
   is-step = rw (← p, q)
 
-  pub code-took : (g : Given) → x ≡ step.Took g → r ≡ finished s b c.op a g → r ≡ code_step s b code bare other a e
+  pub code-took : (g : Given) → x ≡ Ok g → r ≡ finished s b c.op a g → r ≡ code_step s b code bare other a e
   code-took g y z = row-took s b c.op (fields_by n c.first c.second c.third) other c.base a e x h r g y z ∙ is-step
 
-  pub code-refused : (m j i : ℕ) → x ≡ step.Refused m j i → r ≡ Refused m j i → r ≡ code_step s b code bare other a e
-  code-refused m j i y z = row-refused s b c.op (fields_by n c.first c.second c.third) other c.base a e x h r m j i y z ∙ is-step
+  pub code-refused : (f : Fault) → x ≡ Err f → r ≡ Err f → r ≡ code_step s b code bare other a e
+  code-refused f y z = row-refused s b c.op (fields_by n c.first c.second c.third) other c.base a e x h r f y z ∙ is-step
 
 module _ (s : List ℕ) (ls : List Name) (b : Bool) (l : b ≡ not (eqb (length ls) 0)) (k : Kind) (code : ℕ) (r : words.Row) (m : Means (row_at code) r) (other a e : ℕ) where
   pub code-coded : (bare : Bool) → code_step s b code bare other a e ≡ coded_statement (row_read s ls r (token_in k (span a e)) (when bare then [] else r.fields) other)

@@ -1,4 +1,10 @@
 -- The rules' statements as the code tells them. Assumes nothing.
+use Rattle.std.specs.declared.result.Result.{Result}
+use Rattle.std.specs.declared.result.Result.TheVariants.{Ok, Err}
+use Rattle.std.specs.declared.option.Option as O
+use Rattle.std.specs.declared.option.Option.TheVariants.{Some, None}
+use Rattle.base_refusals.specs.declared.Fault.{Fault}
+use Rattle.base_refusals.specs.Refusals.{fault}
 use Rattle.std.specs.Prelude.{ℕ, ◌+◌, Bool, ◌&&◌, not, ◌≡◌, List, map, eqb, length}
 use Rattle.std.proofs.Math.Option.{Option, none, some}
 use Rattle.rules.specs.Base.{when◌then◌else◌, Outcome, ok, refused, ◌>>=◌}
@@ -10,20 +16,12 @@ use Rattle.lex_token.specs.declared.Lexeme.{Lexeme}
 use Rattle.lex_token.specs.Flat.{fault_sort}
 use Rattle.lex_token.specs.Meant.{part}
 use Rattle.parse_field.specs.declared.Given.{Given}
-use Rattle.parse_field.specs.declared.Step.{Step}
-use Rattle.parse_field.specs.declared.Step.TheVariants as step
 use Rattle.parse_rows.specs.declared.Op.{Op}
 use Rattle.parse_rows.specs.declared.Op.TheVariants.{Instr, Orig, Fill, Blkw, Stringz, External}
 use Rattle.parse_rows.specs.declared.Op.TheVariants as op
 use Rattle.parse_rows.specs.Rows.{fields_by, row_at, nop_row, code_from}
 use Rattle.parse_operands.specs.Lines.{reach_of, label_start, label_end, line_step}
 use Rattle.parse.specs.declared.Statement.{Statement}
-use Rattle.parse.specs.declared.NextStatement.{NextStatement}
-use Rattle.parse.specs.declared.NextStatement.TheVariants.{End, Refused}
-use Rattle.parse.specs.declared.NextStatement.TheVariants as next
-use Rattle.parse.specs.declared.Statements.{Statements}
-use Rattle.parse.specs.declared.Statements.TheVariants.{Accepted}
-use Rattle.parse.specs.declared.Statements.TheVariants as all
 
 -- WHAT THE RULES ANSWER
 
@@ -52,15 +50,15 @@ coded_read r = record {
   next = r.next;
 }
 
-unfoldable pub coded_statement : Outcome (Option Read) → NextStatement
-coded_statement (ok none) = End
-coded_statement (ok (some r)) = next.Read (coded_read r)
-coded_statement (refused r) = Refused r.number r.first.start r.first.stop
+unfoldable pub coded_statement : Outcome (Option Read) → Result (O.Option Statement) Fault
+coded_statement (ok none) = Ok None
+coded_statement (ok (some r)) = Ok (Some (coded_read r))
+coded_statement (refused r) = Err (fault r.number r.first.start r.first.stop)
 
 -- all statements of a source: accepted, or the first refusal
-unfoldable pub coded_statements : Outcome (List Stmt) → Statements
-coded_statements (ok ss) = Accepted
-coded_statements (refused r) = all.Refused r.number r.first.start r.first.stop
+unfoldable pub coded_statements : Outcome (List Stmt) → Result (Unit {0}) Fault
+coded_statements (ok ss) = Ok tt
+coded_statements (refused r) = Err (fault r.number r.first.start r.first.stop)
 
 -- lexical refusals come before those of statements, over the whole source
 unfoldable pub source_statements : List ℕ → Outcome (List Stmt)
@@ -74,8 +72,8 @@ pub record AllRead (s : List ℕ) : Type 0 where
 -- STEPS ON THE WAY
 
 -- a token that cannot stand where it is
-unfoldable pub unfit_at : Lexeme → NextStatement
-unfit_at t = when eqb t.sort fault_sort then Refused t.value t.start t.end else Refused 13 t.start t.end
+unfoldable pub unfit_at : Lexeme → Result (O.Option Statement) Fault
+unfit_at t = when eqb t.sort fault_sort then Err (fault t.value t.start t.end) else Err (fault 13 t.start t.end)
 
 -- a statement of what is given
 abbrev pub made : (labelled : Bool) → Op → (start : ℕ) → Given → (next : ℕ) → Statement
@@ -94,19 +92,19 @@ made b o a g n = record {
 }
 
 -- then newline or end
-unfoldable pub ended : (labelled : Bool) → Op → (start : ℕ) → Given → Outcome ℕ → NextStatement
-ended b o a g (ok n) = next.Read (made b o a g n)
-ended b o a g (refused r) = Refused r.number r.first.start r.first.stop
+unfoldable pub ended : (labelled : Bool) → Op → (start : ℕ) → Given → Outcome ℕ → Result (O.Option Statement) Fault
+ended b o a g (ok n) = Ok (Some (made b o a g n))
+ended b o a g (refused r) = Err (fault r.number r.first.start r.first.stop)
 
-unfoldable pub finished : List ℕ → (labelled : Bool) → Op → (start : ℕ) → Given → NextStatement
+unfoldable pub finished : List ℕ → (labelled : Bool) → Op → (start : ℕ) → Given → Result (O.Option Statement) Fault
 finished s b o a g = ended b o a g (line_end s g.stop)
 
-unfoldable pub after : List ℕ → (labelled : Bool) → Op → (start : ℕ) → Step → NextStatement
-after s b o a (step.Took g) = finished s b o a g
-after s b o a (step.Refused n i e) = Refused n i e
+unfoldable pub after : List ℕ → (labelled : Bool) → Op → (start : ℕ) → Result Given Fault → Result (O.Option Statement) Fault
+after s b o a (Ok g) = finished s b o a g
+after s b o a (Err f) = Err f
 
 -- the statement of a row whose first token stands from a up to e
-unfoldable pub row_step : List ℕ → (labelled : Bool) → Op → List words.Field → (other word a e : ℕ) → NextStatement
+unfoldable pub row_step : List ℕ → (labelled : Bool) → Op → List words.Field → (other word a e : ℕ) → Result (O.Option Statement) Fault
 row_step s b o fs other w a e = after s b o a (line_step s fs other w e)
 
 -- how many of a row's operands are read: none where they are left out
@@ -114,7 +112,7 @@ unfoldable pub count_due : ℕ → (bare : Bool) → ℕ
 count_due n bare = when bare then 0 else n
 
 -- the statement of the row at a place of the table
-unfoldable pub code_step : List ℕ → (labelled : Bool) → (code : ℕ) → (bare : Bool) → (other a e : ℕ) → NextStatement
+unfoldable pub code_step : List ℕ → (labelled : Bool) → (code : ℕ) → (bare : Bool) → (other a e : ℕ) → Result (O.Option Statement) Fault
 code_step s b code bare other a e =
     let r = row_at code in
     row_step s b r.op (fields_by (count_due r.count bare) r.first r.second r.third) other r.base a e
@@ -135,8 +133,8 @@ code_at s t =
     else 38
 
 -- what is answered where no row begins
-unfoldable pub headless_at : (labelled : Bool) → Lexeme → NextStatement
+unfoldable pub headless_at : (labelled : Bool) → Lexeme → Result (O.Option Statement) Fault
 headless_at b t =
-    when eqb t.sort 3 then Refused 16 t.start t.end
-    else when eqb t.sort 10 then (when b then Refused 13 t.start t.end else End)
+    when eqb t.sort 3 then Err (fault 16 t.start t.end)
+    else when eqb t.sort 10 then (when b then Err (fault 13 t.start t.end) else Ok None)
     else unfit_at t

@@ -1,17 +1,17 @@
 // One statement at a time, from the source.
 #![tactic(auto)]
 
-ghost use Rattle.std.specs.Prelude.{◌≡◌, ◌+◌, ◌≤◌, ◌<◌, length};
+ghost use Rattle.std.specs.Prelude.{◌≡◌, ◌+◌, ◌≤◌, ◌<◌, length, Ok, Err, Some};
 ghost use Rattle.rules.specs.Statements.{next_statement, statements};
 ghost use Rattle.lex_token.specs.Meant.{part};
+ghost use Rattle.base_refusals.specs.Refusals.{fault};
 ghost use Rattle.parse.specs.Coded.{made, finished, count_due, code_step, is_bare, other_of, code_at, unfit_at, headless_at, coded_statement, coded_statements, source_statements, AllRead};
 
-use base_refusals::{BAD_OPERAND, BAD_STATEMENT, NAME_TOO_LONG, NON_ASCII, SOURCE_TOO_LONG};
+use base_refusals::{BAD_OPERAND, BAD_STATEMENT, Fault, NAME_TOO_LONG, NON_ASCII, SOURCE_TOO_LONG};
 use base_text::Class;
 use lex::next_lexeme;
-use lex_source::Lexed;
 use lex_token::Lexeme;
-use parse_field::{Given, Step};
+use parse_field::Given;
 use parse_rows::{Op, Row};
 
 // A statement: whether labels stand before it; what it does; its word or number as far as it is known; the number of values of its label operand's field (0: no label operand) and the
@@ -32,41 +32,19 @@ pub struct Statement {
     pub next: usize,
 }
 
-#[derive(Clone, Copy)]
-pub enum NextStatement {
-    Read(Statement),
-    End,
-    Refused {
-        number: u16,
-        start: usize,
-        end: usize,
-    },
-}
-
-// What reading all statements of a source answers.
-#[derive(Clone, Copy)]
-pub enum Statements {
-    Accepted,
-    Refused {
-        number: u16,
-        start: usize,
-        end: usize,
-    },
-}
-
 // A refusal with this number at the token.
-fn refused(number: u16, t: Lexeme) -> NextStatement
-    ensures { result ≡ NextStatement.Refused number t.start t.end }
+fn refused(number: u16, t: Lexeme) -> Result<Option<Statement>, Fault>
+    ensures { result ≡ Err (fault number t.start t.end) }
 {
-    NextStatement::Refused {
+    Err(Fault {
         number,
         start: t.start,
         end: t.end,
-    }
+    })
 }
 
 // A token that cannot stand where it is: its own refusal, or 13.
-fn unfit(t: Lexeme) -> NextStatement
+fn unfit(t: Lexeme) -> Result<Option<Statement>, Fault>
     ensures { result ≡ unfit_at t }
 {
     if t.sort == lex_token::FAULT {
@@ -76,10 +54,16 @@ fn unfit(t: Lexeme) -> NextStatement
 }
 
 // A statement of what is given, from its first token up to its last operand.
-fn read_of(labelled: bool, op: Op, head: Lexeme, g: Given, next: usize) -> NextStatement
-    ensures { result ≡ NextStatement.Read (made labelled op head.start g next) }
+fn read_of(
+    labelled: bool,
+    op: Op,
+    head: Lexeme,
+    g: Given,
+    next: usize,
+) -> Result<Option<Statement>, Fault>
+    ensures { result ≡ Ok (Some (made labelled op head.start g next)) }
 {
-    NextStatement::Read(Statement {
+    Ok(Some(Statement {
         labelled,
         op,
         bits: g.bits,
@@ -91,11 +75,17 @@ fn read_of(labelled: bool, op: Op, head: Lexeme, g: Given, next: usize) -> NextS
         start: head.start,
         end: g.stop,
         next,
-    })
+    }))
 }
 
 // After the operands a newline or the end of the source. A line feed is known by its byte.
-fn line_end(src: &[u8], labelled: bool, op: Op, head: Lexeme, g: Given) -> NextStatement
+fn line_end(
+    src: &[u8],
+    labelled: bool,
+    op: Op,
+    head: Lexeme,
+    g: Given,
+) -> Result<Option<Statement>, Fault>
     ensures { result ≡ finished src.now labelled op head.start g }
 {
     let stop = base_text::run_end(src, g.stop, Class::Space);
@@ -130,7 +120,7 @@ fn row_read(
     bare: bool,
     t: Lexeme,
     other: u16,
-) -> NextStatement
+) -> Result<Option<Statement>, Fault>
     requires { code < 38 }
     ensures { result ≡ code_step src.now labelled code bare other t.start t.end }
 {
@@ -147,11 +137,8 @@ fn row_read(
         second,
         third,
     };
-    let step = parse_operands::operands_from(src, t.end, row, other);
-    match step {
-        Step::Took(g) => line_end(src, labelled, op, t, g),
-        Step::Refused { number, start, end } => NextStatement::Refused { number, start, end },
-    }
+    let g = parse_operands::operands_from(src, t.end, row, other)?;
+    line_end(src, labelled, op, t, g)
 }
 
 // NOP's operand may be left out, before a newline or the end of the source.
@@ -197,7 +184,7 @@ fn code_at(src: &[u8], t: Lexeme) -> usize
     ensures { result ≡ code_at src.now t }
 {
     if t.sort == lex_token::RESERVED {
-        return t.value as usize;
+        return usize::from(t.value);
     }
     if t.sort == lex_token::DIRECTIVE {
         return parse_rows::directive_code(name_after(src, t.start, t.end));
@@ -206,7 +193,7 @@ fn code_at(src: &[u8], t: Lexeme) -> usize
 }
 
 // What is answered where no row begins: 16 at a name, which is too long, the end where no labels stand before it, and else what a token that does not fit is refused with.
-fn headless(labelled: bool, t: Lexeme) -> NextStatement
+fn headless(labelled: bool, t: Lexeme) -> Result<Option<Statement>, Fault>
     ensures { result ≡ headless_at labelled t }
 {
     if t.sort == lex_token::LABEL {
@@ -216,13 +203,13 @@ fn headless(labelled: bool, t: Lexeme) -> NextStatement
         if labelled {
             return refused(BAD_STATEMENT, t);
         }
-        return NextStatement::End;
+        return Ok(None);
     }
     unfit(t)
 }
 
 // The statement that begins at a place or after it.
-pub fn next_statement(src: &[u8], at: usize) -> NextStatement
+pub fn next_statement(src: &[u8], at: usize) -> Result<Option<Statement>, Fault>
     ensures { result ≡ coded_statement (next_statement src.now at) }
 {
     let walk = parse_labels::walk_labels(src, at);
@@ -242,72 +229,57 @@ pub fn next_statement(src: &[u8], at: usize) -> NextStatement
 }
 
 // The first refusal of a source's statements, where there is one.
-pub fn first_refusal(src: &[u8]) -> Statements
+pub fn first_refusal(src: &[u8]) -> Result<(), Fault>
     ensures { result ≡ coded_statements (statements src.now) }
 {
     let mut at = 0;
-    loop {
-        let statement = next_statement(src, at);
-        match statement {
-            NextStatement::Read(s) => {
-                at = s.next;
-            }
-            NextStatement::End => {
-                return Statements::Accepted;
-            }
-            NextStatement::Refused { number, start, end } => {
-                return Statements::Refused { number, start, end };
-            }
-        }
+    // A while: each statement says where the next one begins.
+    while let Some(statement) = next_statement(src, at)? {
+        at = statement.next;
     }
+    Ok(())
 }
 
 // 12 in a source whose statements are read: the lexer's walk has nothing else to refuse, since every token is read with its statement.
-pub fn check_bytes(src: &[u8]) -> Statements
+pub fn check_bytes(src: &[u8]) -> Result<(), Fault>
     requires { (length src.now ≤ 262144) × AllRead src.now }
     ensures { result ≡ coded_statements (source_statements src.now) }
 {
     let high = base_runs::ascii_end(src);
     if high < src.len() {
-        return Statements::Refused {
+        return Err(Fault {
             number: NON_ASCII,
             start: high,
             end: high + 1,
-        };
+        });
     }
-    Statements::Accepted
+    Ok(())
 }
 
 // The lexer's refusal of a source, or, where there is none, the answer of its statements.
-fn lexed_first(src: &[u8], answer: Statements) -> Statements
+fn lexed_first(src: &[u8], answer: Result<(), Fault>) -> Result<(), Fault>
     requires { answer ≡ coded_statements (statements src.now) }
     ensures { result ≡ coded_statements (source_statements src.now) }
 {
-    match lex_source::first_refusal(src) {
-        Lexed::Clean => answer,
-        Lexed::Fault { number, start, end } => Statements::Refused { number, start, end },
-    }
+    lex_source::first_refusal(src)?;
+    answer
 }
 
 // The first refusal of a source: 11, 12, the lexer's over the whole source, then that of its statements.
 // The statements are read first: accepted, they leave only 12; refused, the lexer's walk says whether a refusal of its own goes before.
-pub fn check_source(src: &[u8]) -> Statements
+pub fn check_source(src: &[u8]) -> Result<(), Fault>
     ensures { result ≡ coded_statements (source_statements src.now) }
 {
     if base_capacities::SOURCE_BYTES < src.len() {
-        return Statements::Refused {
+        return Err(Fault {
             number: SOURCE_TOO_LONG,
             start: 0,
             end: src.len(),
-        };
+        });
     }
     let answer = first_refusal(src);
     match answer {
-        Statements::Accepted => check_bytes(src),
-        Statements::Refused {
-            number: _,
-            start: _,
-            end: _,
-        } => lexed_first(src, answer),
+        Ok(()) => check_bytes(src),
+        Err(_) => lexed_first(src, answer),
     }
 }

@@ -1,4 +1,8 @@
 -- What each way through the reading of one operand answers. Assumes nothing.
+use Rattle.std.specs.declared.result.Result.{Result}
+use Rattle.std.specs.declared.result.Result.TheVariants.{Ok, Err}
+use Rattle.base_refusals.specs.declared.Fault.{Fault}
+use Rattle.base_refusals.specs.Refusals.{fault}
 use Prim.Native.Nat.{ℕ, ◌+◌, ◌-◌, ◌*◌, ◌%◌, ◌≤◌, ◌<◌}
 use mathlib.Core.Path.{◌≡◌, refl, sym, ◌∙◌, ap}
 use mathlib.Core.Bool.{Bool, true, false}
@@ -18,21 +22,19 @@ use Rattle.lex_token.specs.Flat.{fault_sort}
 use Rattle.parse_field.specs.declared.Field.{Field}
 use Rattle.parse_field.specs.declared.Range.{Range}
 use Rattle.parse_field.specs.declared.Given.{Given}
-use Rattle.parse_field.specs.declared.Step.{Step}
-use Rattle.parse_field.specs.declared.Step.TheVariants.{Took, Refused}
 use Rattle.parse_field.specs.Coded.{field_of, multiplier_of, range_of, raise_of, reach_of, texts_of, given, add_to, stepped, num_of, misplaced_at, Adds}
 use Rattle.parse_field.proofs.Reading.{step-refused, step-bits, step_other, register-no, register-yes, multiplier-most, number-no, number_in, number-out, raised_is, sound, reached, label-no, label-yes, reached-is, text-no, text-yes}
 
-pub took-given : (g : Given) (n i : ℕ) → Took (given (g.bits + n) g.reach g.label_start g.label_end g.text_start g.text_end i) ≡ Took (add_to g (bits n) i)
+pub took-given : (g : Given) (n i : ℕ) {r : Result Given Fault} → r ≡ Ok (given (g.bits + n) g.reach g.label_start g.label_end g.text_start g.text_end i) → r ≡ Ok (add_to g (bits n) i)
 unfolding add_to
-took-given g n i = refl
+took-given g n i e = e
 
-module _ (t : Lexeme) (other : ℕ) (r : Step) where
-  pub misplaced-own : t.sort ≡ fault_sort → r ≡ Refused t.value t.start t.end → r ≡ misplaced_at t other
+module _ (t : Lexeme) (other : ℕ) (r : Result Given Fault) where
+  pub misplaced-own : t.sort ≡ fault_sort → r ≡ Err (fault t.value t.start t.end) → r ≡ misplaced_at t other
   unfolding misplaced_at when◌then◌else◌
   misplaced-own e h = rw (eq-eqb _ _ e) h
 
-  pub misplaced-other : (t.sort ≡ fault_sort → ⊥) → r ≡ Refused other t.start t.end → r ≡ misplaced_at t other
+  pub misplaced-other : (t.sort ≡ fault_sort → ⊥) → r ≡ Err (fault other t.start t.end) → r ≡ misplaced_at t other
   unfolding misplaced_at when◌then◌else◌
   misplaced-other e h = rw (ne_eqb _ _ e) h
 
@@ -44,14 +46,14 @@ module _ (v m : ℕ) (f : Field) (e : m ≡ multiplier_of f) (l : v < 65536) whe
   pub register-fits : v * m < 4294967296
   register-fits = omega (arith, register-small)
 
-module _ (g : Given) (f : Field) (other : ℕ) (t : Lexeme) (m : ℕ) (r : Step) (e : m ≡ multiplier_of f) where
+module _ (g : Given) (f : Field) (other : ℕ) (t : Lexeme) (m : ℕ) (r : Result Given Fault) (e : m ≡ multiplier_of f) where
   abbrev Registered : Type 0
   Registered = Adds g r (stepped g (operand (field_of f) other (token_in (register t.value) (span t.start t.end))) t.end)
 
-  pub register-refused : m ≡ 0 → r ≡ Refused other t.start t.end → Registered
+  pub register-refused : m ≡ 0 → r ≡ Err (fault other t.start t.end) → Registered
   register-refused z h = step-refused g _ t.end r other t.start t.end (register-no f other t.value _ (sym e ∙ z)) h
 
-  pub register-took : t.value < 65536 → (m ≡ 0 → ⊥) → r ≡ Took (add_to g (bits (t.value * m)) t.end) → Registered
+  pub register-took : t.value < 65536 → (m ≡ 0 → ⊥) → r ≡ Ok (add_to g (bits (t.value * m)) t.end) → Registered
   register-took l z h = step-bits g _ t.end r (t.value * m) (register-small t.value m f e l) (rw e (register-yes f other t.value _ (λ (q : multiplier_of f ≡ 0). z (e ∙ q)))) h
 
 -- A NUMBER
@@ -89,18 +91,18 @@ module _ (g : Given) (f : Field) (other : ℕ) (t : Lexeme) (m : Range) (e : m �
     pub plus-fits : t.value < 65536 → x + t.value < 4294967296
     plus-fits h = omega (arith, plus-small h)
 
-  module _ (r : Step) where
+  module _ (r : Result Given Fault) where
     abbrev Numbered : Type 0
     Numbered = Adds g r (stepped g (operand (field_of f) other (token_in (number (num_of t.sort t.value)) (span t.start t.end))) t.end)
 
-    pub number-refused : m.modulus ≡ 0 → r ≡ Refused other t.start t.end → Numbered
+    pub number-refused : m.modulus ≡ 0 → r ≡ Err (fault other t.start t.end) → Numbered
     number-refused z h = step-refused g _ t.end r other t.start t.end (number-no other _ _ f (sym modulus-is ∙ z)) h
 
     module _ (z : m.modulus ≡ 0 → ⊥) where
       some-numbers : (range_of f).modulus ≡ 0 → ⊥
       some-numbers k = z (modulus-is ∙ k)
 
-      pub minus-took : (x : ℕ) (b : Bool) → t.sort ≡ 1 → b ≡ leb t.value m.low → b ≡ true → x ≡ raise_of f → r ≡ Took (add_to g (bits (x + (m.modulus - t.value) % m.modulus)) t.end) → Numbered
+      pub minus-took : (x : ℕ) (b : Bool) → t.sort ≡ 1 → b ≡ leb t.value m.low → b ≡ true → x ≡ raise_of f → r ≡ Ok (add_to g (bits (x + (m.modulus - t.value) % m.modulus)) t.end) → Numbered
       unfolding in_range reduced
       minus-took x b k p y q h =
           let l : leb t.value (range_of f).low ≡ true = rw low-is at (sym p ∙ y) in
@@ -108,13 +110,13 @@ module _ (g : Given) (f : Field) (other : ℕ) (t : Lexeme) (m : Range) (e : m �
           (rw (num-minus t.sort t.value k) (number_in other (minus t.value) _ f some-numbers l ∙ rw (modulus-is, q) (ap (λ (n : ℕ). ok (bits n)) (raised_is f (((range_of f).modulus - t.value) % (range_of f).modulus)))))
           h
 
-      pub minus-out : (b : Bool) → t.sort ≡ 1 → b ≡ leb t.value m.low → b ≡ false → r ≡ Refused 15 t.start t.end → Numbered
+      pub minus-out : (b : Bool) → t.sort ≡ 1 → b ≡ leb t.value m.low → b ≡ false → r ≡ Err (fault 15 t.start t.end) → Numbered
       unfolding in_range
       minus-out b k p y h =
           let l : leb t.value (range_of f).low ≡ false = rw low-is at (sym p ∙ y) in
           step-refused g _ t.end r 15 t.start t.end (rw (num-minus t.sort t.value k) (number-out other (minus t.value) _ f some-numbers l)) h
 
-      pub plus-took : (x : ℕ) (b : Bool) → (t.sort ≡ 1 → ⊥) → t.value < 65536 → b ≡ leb t.value m.high → b ≡ true → x ≡ raise_of f → r ≡ Took (add_to g (bits (x + t.value)) t.end) → Numbered
+      pub plus-took : (x : ℕ) (b : Bool) → (t.sort ≡ 1 → ⊥) → t.value < 65536 → b ≡ leb t.value m.high → b ≡ true → x ≡ raise_of f → r ≡ Ok (add_to g (bits (x + t.value)) t.end) → Numbered
       unfolding in_range reduced
       plus-took x b k s p y q h =
           let l : leb t.value (range_of f).high ≡ true = rw high_is at (sym p ∙ y) in
@@ -122,25 +124,25 @@ module _ (g : Given) (f : Field) (other : ℕ) (t : Lexeme) (m : Range) (e : m �
           (rw (num-plus t.sort t.value k) (number_in other (plus t.value) _ f some-numbers l ∙ rw q (ap (λ (n : ℕ). ok (bits n)) (raised_is f t.value))))
           h
 
-      pub plus-out : (b : Bool) → (t.sort ≡ 1 → ⊥) → b ≡ leb t.value m.high → b ≡ false → r ≡ Refused 15 t.start t.end → Numbered
+      pub plus-out : (b : Bool) → (t.sort ≡ 1 → ⊥) → b ≡ leb t.value m.high → b ≡ false → r ≡ Err (fault 15 t.start t.end) → Numbered
       unfolding in_range
       plus-out b k p y h =
           let l : leb t.value (range_of f).high ≡ false = rw high_is at (sym p ∙ y) in
           step-refused g _ t.end r 15 t.start t.end (rw (num-plus t.sort t.value k) (number-out other (plus t.value) _ f some-numbers l)) h
 
 -- A LABEL
-module _ (g : Given) (f : Field) (other : ℕ) (t : Lexeme) (m : ℕ) (r : Step) (e : m ≡ reach_of f) where
+module _ (g : Given) (f : Field) (other : ℕ) (t : Lexeme) (m : ℕ) (r : Result Given Fault) (e : m ≡ reach_of f) where
   abbrev Labelled : Type 0
   Labelled = (w : List ℕ) → find w instructions ≡ none → length w ≡ t.end - t.start → Adds g r (stepped g (operand (field_of f) other (token_in (word w) (span t.start t.end))) t.end)
 
-  pub label-refused : m ≡ 0 → r ≡ Refused other t.start t.end → Labelled
+  pub label-refused : m ≡ 0 → r ≡ Err (fault other t.start t.end) → Labelled
   label-refused z h w l s = step-refused g _ t.end r other t.start t.end (label-no other w _ l f (sym e ∙ z)) h
 
   module _ (z : m ≡ 0 → ⊥) where
     some-labels : reach_of f ≡ 0 → ⊥
     some-labels k = z (e ∙ k)
 
-    pub label-took : (n : ℕ) → n ≡ t.end - t.start → n ≤ 64 → r ≡ Took (given g.bits m t.start t.end g.text_start g.text_end t.end) → Labelled
+    pub label-took : (n : ℕ) → n ≡ t.end - t.start → n ≤ 64 → r ≡ Ok (given g.bits m t.start t.end g.text_start g.text_end t.end) → Labelled
     unfolding named when◌then◌else◌ add_to
     label-took n q k h w l s =
         let b : leb (length w) 64 ≡ true = le-leb (length w) 64 (omega arith) in
@@ -148,20 +150,20 @@ module _ (g : Given) (f : Field) (other : ℕ) (t : Lexeme) (m : ℕ) (r : Step)
         (label-yes other w (span t.start t.end) l f some-labels ∙ rw (b, named))
         (h ∙ rw (e, reached-is f some-labels)) refl
 
-    pub label-long : (n : ℕ) → n ≡ t.end - t.start → 64 < n → r ≡ Refused 16 t.start t.end → Labelled
+    pub label-long : (n : ℕ) → n ≡ t.end - t.start → 64 < n → r ≡ Err (fault 16 t.start t.end) → Labelled
     unfolding named when◌then◌else◌
     label-long n q k h w l s =
         let b : leb (length w) 64 ≡ false = lt-leb (length w) 64 (omega arith) in
         step-refused g _ t.end r 16 t.start t.end (label-yes other w (span t.start t.end) l f some-labels ∙ rw (b, named)) h
 
 -- A STRING
-module _ (g : Given) (f : Field) (other : ℕ) (t : Lexeme) (b : Bool) (r : Step) (e : b ≡ texts_of f) where
+module _ (g : Given) (f : Field) (other : ℕ) (t : Lexeme) (b : Bool) (r : Result Given Fault) (e : b ≡ texts_of f) where
   abbrev Quoted : Type 0
   Quoted = (c : List ℕ) → Adds g r (stepped g (operand (field_of f) other (token_in (text c) (span t.start t.end))) t.end)
 
-  pub text-took : b ≡ true → r ≡ Took (given g.bits g.reach g.label_start g.label_end t.start t.end t.end) → Quoted
+  pub text-took : b ≡ true → r ≡ Ok (given g.bits g.reach g.label_start g.label_end t.start t.end t.end) → Quoted
   unfolding add_to
   text-took z h c = step_other g _ t.end r (chars c (span t.start t.end)) (text-yes other c _ f (sym e ∙ z)) h refl
 
-  pub text-refused : b ≡ false → r ≡ Refused other t.start t.end → Quoted
+  pub text-refused : b ≡ false → r ≡ Err (fault other t.start t.end) → Quoted
   text-refused z h c = step-refused g _ t.end r other t.start t.end (text-no other c _ f (sym e ∙ z)) h

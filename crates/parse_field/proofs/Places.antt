@@ -1,4 +1,8 @@
 -- The operand at a place, by its token's sort. Assumes nothing.
+use Rattle.std.specs.declared.result.Result.{Result}
+use Rattle.std.specs.declared.result.Result.TheVariants.{Err}
+use Rattle.base_refusals.specs.declared.Fault.{Fault}
+use Rattle.base_refusals.specs.Refusals.{fault}
 use Prim.Native.Nat.{ℕ, zero, suc, ◌-◌, ◌≤◌, ◌<◌}
 use mathlib.Core.Path.{◌≡◌, refl, sym, ◌∙◌}
 use mathlib.Core.List.{List}
@@ -18,8 +22,6 @@ use Rattle.lex_token.specs.Flat.{fault_sort}
 use Rattle.lex.specs.Sorts.{name_of, kind_by, no_row, Stands, NoFault}
 use Rattle.parse_field.specs.declared.Field.{Field}
 use Rattle.parse_field.specs.declared.Given.{Given}
-use Rattle.parse_field.specs.declared.Step.{Step}
-use Rattle.parse_field.specs.declared.Step.TheVariants.{Refused}
 use Rattle.parse_field.specs.Coded.{field_of, told, stepped, operand_given, operand_step, num_of, misplaced_at, Below, Adds}
 
 -- a token that no operand is
@@ -57,11 +59,11 @@ module _ (s : List ℕ) (i : ℕ) (t : Lexeme) (g : Given) (f : Field) (other : 
   unfolding operand_step operand_given stepped
   at-token k e = rw (e, operand_given)
 
-  at-refused : (n : ℕ) → next_token s i ≡ refuse n (span t.start t.end) → operand_step s (field_of f) other g i ≡ Refused n t.start t.end
+  at-refused : (n : ℕ) → next_token s i ≡ refuse n (span t.start t.end) → operand_step s (field_of f) other g i ≡ Err (fault n t.start t.end)
   unfolding operand_step operand_given told
   at-refused n e = rw (e, operand_given)
 
-  module _ (r : Step) (h : Stands s i t) where
+  module _ (r : Result Given Fault) (h : Stands s i t) where
     abbrev Placed : Type 0
     Placed = Adds g r (operand_step s (field_of f) other g i)
 
@@ -91,7 +93,7 @@ module _ (s : List ℕ) (i : ℕ) (t : Lexeme) (g : Given) (f : Field) (other : 
     unfolding misplaced_at when◌then◌else◌ Below stepped told
     at_other a b c d e = go (dec_lt t.sort fault_sort)
       where
-        plain : Refused other t.start t.end ≡ r → operand_step s (field_of f) other g i ≡ Refused other t.start t.end → Placed
+        plain : Err (fault other t.start t.end) ≡ r → operand_step s (field_of f) other g i ≡ Err (fault other t.start t.end) → Placed
         plain q w = rw (← q, w) (record { is = refl; room = tt })
 
         go : Dec (NoFault t) → Placed

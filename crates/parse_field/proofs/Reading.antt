@@ -1,5 +1,9 @@
 -- One operand by the sort of its token, for every field. Assumes nothing.
-use Prim.Native.Nat.{ℕ, ◌+◌, ◌-◌, ◌*◌, ◌≤◌}
+use Rattle.std.specs.declared.result.Result.{Result}
+use Rattle.std.specs.declared.result.Result.TheVariants.{Ok, Err}
+use Rattle.base_refusals.specs.declared.Fault.{Fault}
+use Rattle.base_refusals.specs.Refusals.{fault}
+use Prim.Native.Nat.{ℕ, ◌+◌, ◌*◌, ◌≤◌}
 use mathlib.Core.Path.{◌≡◌, refl, ◌∙◌, ap}
 use mathlib.Core.Bool.{true, false}
 use mathlib.Core.List.{List}
@@ -14,21 +18,19 @@ use Rattle.rules.proofs.Bools.{never}
 use Rattle.parse_field.specs.declared.Field.{Field}
 use Rattle.parse_field.specs.declared.Field.TheVariants.{Dr, Sr, RegOrImm, Offset6, Near9, Near11, Trap, Word, Fill, Name, Text}
 use Rattle.parse_field.specs.declared.Given.{Given}
-use Rattle.parse_field.specs.declared.Step.{Step}
-use Rattle.parse_field.specs.declared.Step.TheVariants.{Took, Refused}
 use Rattle.parse_field.specs.Coded.{field_of, multiplier_of, range_of, raise_of, raised, reach_of, texts_of, add_to, told, stepped, Below, Adds}
 
 -- a refusal of an operand, and bits that it gives
 module _ (g : Given) (o : Outcome Piece) (i : ℕ) where
-  pub step-refused : (r : Step) (n a e : ℕ) → o ≡ refuse n (span a e) → r ≡ Refused n a e → Adds g r (stepped g o i)
+  pub step-refused : (r : Result Given Fault) (n a e : ℕ) → o ≡ refuse n (span a e) → r ≡ Err (fault n a e) → Adds g r (stepped g o i)
   unfolding stepped told Below
   step-refused r n a e q h = rw (h, q) (record { is = refl; room = tt })
 
-  pub step-bits : (r : Step) (n : ℕ) → n ≤ 33554432 → o ≡ ok (bits n) → r ≡ Took (add_to g (bits n) i) → Adds g r (stepped g o i)
+  pub step-bits : (r : Result Given Fault) (n : ℕ) → n ≤ 33554432 → o ≡ ok (bits n) → r ≡ Ok (add_to g (bits n) i) → Adds g r (stepped g o i)
   unfolding stepped told Below add_to
   step-bits r n l q h = rw (h, q) (record { is = refl; room = omega arith })
 
-  pub step_other : (r : Step) (p : Piece) → o ≡ ok p → r ≡ Took (add_to g p i) → (add_to g p i).bits ≡ g.bits → Adds g r (stepped g o i)
+  pub step_other : (r : Result Given Fault) (p : Piece) → o ≡ ok p → r ≡ Ok (add_to g p i) → (add_to g p i).bits ≡ g.bits → Adds g r (stepped g o i)
   unfolding stepped told Below
   step_other r p q h b = rw (h, q) (record { is = refl; room = omega arith })
 

@@ -1,4 +1,8 @@
 -- Fields and what operands give, as the code has them. Assumes nothing.
+use Rattle.std.specs.declared.result.Result.{Result}
+use Rattle.std.specs.declared.result.Result.TheVariants.{Ok, Err}
+use Rattle.base_refusals.specs.declared.Fault.{Fault}
+use Rattle.base_refusals.specs.Refusals.{fault}
 use Rattle.std.specs.Prelude.{ℕ, ◌+◌, ◌≤◌, Bool, true, false, List, ◌≡◌, eqb}
 use Rattle.rules.specs.Base.{when◌then◌else◌, Outcome, ok, refused, ◌>>=◌}
 use Rattle.rules.specs.Tokens.{Num, plus, minus, next_token}
@@ -11,8 +15,6 @@ use Rattle.parse_field.specs.declared.Field.{Field}
 use Rattle.parse_field.specs.declared.Field.TheVariants.{Dr, Sr, RegOrImm, Offset6, Near9, Near11, Trap, Word, Fill, Name, Text}
 use Rattle.parse_field.specs.declared.Range.{Range}
 use Rattle.parse_field.specs.declared.Given.{Given}
-use Rattle.parse_field.specs.declared.Step.{Step}
-use Rattle.parse_field.specs.declared.Step.TheVariants.{Took, Refused}
 
 -- FIELDS
 abbrev pub field_of : Field → words.Field
@@ -126,11 +128,11 @@ add_to g (target t) i = given g.bits t.field.modulus t.name.place.start t.name.p
 add_to g (chars c q) i = given g.bits g.reach g.label_start g.label_end q.start q.stop i
 
 -- what is given, or a refusal
-unfoldable pub told : Outcome Given → Step
-told (ok g) = Took g
-told (refused r) = Refused r.number r.first.start r.first.stop
+unfoldable pub told : Outcome Given → Result Given Fault
+told (ok g) = Ok g
+told (refused r) = Err (fault r.number r.first.start r.first.stop)
 
-unfoldable pub stepped : Given → Outcome Piece → ℕ → Step
+unfoldable pub stepped : Given → Outcome Piece → ℕ → Result Given Fault
 stepped g o i = told (o >>= λ p. ok (add_to g p i))
 
 -- the operand at a place, as in the rules
@@ -140,7 +142,7 @@ operand_given s f other g i = do
   p ← operand f other t
   ok (add_to g p t.place.stop)
 
-unfoldable pub operand_step : List ℕ → words.Field → ℕ → Given → ℕ → Step
+unfoldable pub operand_step : List ℕ → words.Field → ℕ → Given → ℕ → Result Given Fault
 operand_step s f other g i = told (operand_given s f other g i)
 
 -- a number by its sort and size
@@ -148,15 +150,15 @@ unfoldable pub num_of : ℕ → ℕ → Num
 num_of k n = when eqb k 1 then minus n else plus n
 
 -- its own refusal, or another
-unfoldable pub misplaced_at : Lexeme → ℕ → Step
-misplaced_at t other = when eqb t.sort fault_sort then Refused t.value t.start t.end else Refused other t.start t.end
+unfoldable pub misplaced_at : Lexeme → ℕ → Result Given Fault
+misplaced_at t other = when eqb t.sort fault_sort then Err (fault t.value t.start t.end) else Err (fault other t.start t.end)
 
 -- the word's bits are at most n
-unfoldable pub Below : ℕ → Step → Type 0
-Below n (Took g) = g.bits ≤ n
-Below n (Refused k a e) = Unit {0}
+unfoldable pub Below : ℕ → Result Given Fault → Type 0
+Below n (Ok g) = g.bits ≤ n
+Below n (Err f) = Unit {0}
 
 -- the answer is that of the rules, and adds to the word at most 2 ^ 25
-pub record Adds (g : Given) (r x : Step) : Type 0 where
+pub record Adds (g : Given) (r x : Result Given Fault) : Type 0 where
   pub is : r ≡ x
   pub room : Below (g.bits + 33554432) r

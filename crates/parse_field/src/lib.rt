@@ -1,15 +1,17 @@
 // One operand into its field: which tokens a field takes, their numbers and ranges (14, 15, 16), and what the operands read so far give together.
 #![tactic(auto)]
 
-ghost use Rattle.std.specs.Prelude.{◌≡◌, List, ℕ, ◌≤◌, ◌-◌, leb, length};
+ghost use Rattle.std.specs.Prelude.{◌≡◌, List, ℕ, ◌≤◌, ◌-◌, leb, length, Ok, Err};
 ghost use Rattle.std.proofs.Math.Option.{none};
 ghost use Rattle.rules.specs.Base.{span};
 ghost use Rattle.rules.specs.Tokens.{token_in, number, register, word, text};
 ghost use Rattle.rules.specs.Words.{find, instructions};
 ghost use Rattle.rules.specs.Statements.{operand, bits};
+ghost use Rattle.base_refusals.specs.Refusals.{fault};
 ghost use Rattle.parse_field.specs.Coded.{field_of, multiplier_of, range, range_of, raise_of, reach_of, texts_of, num_of, add_to, stepped, Adds, misplaced_at, operand_step};
 
 use base_capacities::ADDRESSES;
+use base_refusals::Fault;
 use lex::next_lexeme;
 use lex_token::Lexeme;
 
@@ -49,16 +51,6 @@ pub struct Given {
     pub text_start: usize,
     pub text_end: usize,
     pub stop: usize,
-}
-
-#[derive(Clone, Copy)]
-pub enum Step {
-    Took(Given),
-    Refused {
-        number: u16,
-        start: usize,
-        end: usize,
-    },
 }
 
 // The bits where the two registers begin, and the one beside an imm5.
@@ -186,29 +178,26 @@ fn takes_text(field: Field) -> bool
 fn gap(start: usize, end: usize) -> usize
     ensures { result ≡ end - start }
 {
-    if start <= end {
-        return end - start;
-    }
-    0
+    end.saturating_sub(start)
 }
 
 // A refusal with this number at the token.
-fn refused(number: u16, t: Lexeme) -> Step
-    ensures { result ≡ Step.Refused number t.start t.end }
+fn refused(number: u16, t: Lexeme) -> Result<Given, Fault>
+    ensures { result ≡ Err (fault number t.start t.end) }
 {
-    Step::Refused {
+    Err(Fault {
         number,
         start: t.start,
         end: t.end,
-    }
+    })
 }
 
 // What is given, with n more in the word, up to the token's end.
-fn took(g: Given, n: u32, t: Lexeme) -> Step
+fn took(g: Given, n: u32, t: Lexeme) -> Result<Given, Fault>
     requires { (g.bits ≤ 268435456) × (n ≤ 33554432) }
-    ensures { result ≡ Step.Took (add_to g (bits n) t.end) }
+    ensures { result ≡ Ok (add_to g (bits n) t.end) }
 {
-    Step::Took(Given {
+    Ok(Given {
         bits: g.bits + n,
         reach: g.reach,
         label_start: g.label_start,
@@ -220,7 +209,7 @@ fn took(g: Given, n: u32, t: Lexeme) -> Step
 }
 
 // A register as an operand.
-fn register_operand(g: Given, field: Field, other: u16, t: Lexeme) -> Step
+fn register_operand(g: Given, field: Field, other: u16, t: Lexeme) -> Result<Given, Fault>
     requires { g.bits ≤ 268435456 }
     ensures { Adds g result (stepped g (operand (field_of field) other (token_in (register t.value) (span t.start t.end))) t.end) }
 {
@@ -240,7 +229,7 @@ fn within(value: u16, bound: u16) -> bool
 }
 
 // A number as an operand.
-fn number_operand(g: Given, field: Field, other: u16, t: Lexeme) -> Step
+fn number_operand(g: Given, field: Field, other: u16, t: Lexeme) -> Result<Given, Fault>
     requires { g.bits ≤ 268435456 }
     ensures { Adds g result (stepped g (operand (field_of field) other (token_in (number (num_of t.sort t.value)) (span t.start t.end))) t.end) }
 {
@@ -264,7 +253,7 @@ fn number_operand(g: Given, field: Field, other: u16, t: Lexeme) -> Step
 }
 
 // A label as an operand.
-fn label_operand(g: Given, field: Field, other: u16, t: Lexeme) -> Step
+fn label_operand(g: Given, field: Field, other: u16, t: Lexeme) -> Result<Given, Fault>
     ensures { (w : List ℕ) → find w instructions ≡ none → length w ≡ t.end - t.start → Adds g result (stepped g (operand (field_of field) other (token_in (word w) (span t.start t.end))) t.end) }
 {
     let m = reach(field);
@@ -272,7 +261,7 @@ fn label_operand(g: Given, field: Field, other: u16, t: Lexeme) -> Step
         return refused(other, t);
     }
     if gap(t.start, t.end) <= base_capacities::NAME_BYTES {
-        return Step::Took(Given {
+        return Ok(Given {
             bits: g.bits,
             reach: m,
             label_start: t.start,
@@ -286,11 +275,11 @@ fn label_operand(g: Given, field: Field, other: u16, t: Lexeme) -> Step
 }
 
 // A string as an operand.
-fn text_operand(g: Given, field: Field, other: u16, t: Lexeme) -> Step
+fn text_operand(g: Given, field: Field, other: u16, t: Lexeme) -> Result<Given, Fault>
     ensures { (c : List ℕ) → Adds g result (stepped g (operand (field_of field) other (token_in (text c) (span t.start t.end))) t.end) }
 {
     if takes_text(field) {
-        return Step::Took(Given {
+        return Ok(Given {
             bits: g.bits,
             reach: g.reach,
             label_start: g.label_start,
@@ -304,7 +293,7 @@ fn text_operand(g: Given, field: Field, other: u16, t: Lexeme) -> Step
 }
 
 // A token that may not stand where it is: its own refusal, or else this number.
-pub fn misplaced(t: Lexeme, other: u16) -> Step
+pub fn misplaced(t: Lexeme, other: u16) -> Result<Given, Fault>
     ensures { result ≡ misplaced_at t other }
 {
     if t.sort == lex_token::FAULT {
@@ -314,7 +303,7 @@ pub fn misplaced(t: Lexeme, other: u16) -> Step
 }
 
 // The operand at a place.
-pub fn operand_at(src: &[u8], at: usize, g: Given, field: Field, other: u16) -> Step
+pub fn operand_at(src: &[u8], at: usize, g: Given, field: Field, other: u16) -> Result<Given, Fault>
     requires { g.bits ≤ 268435456 }
     ensures { Adds g result (operand_step src.now (field_of field) other g at) }
 {

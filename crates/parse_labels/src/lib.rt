@@ -74,6 +74,7 @@ pub fn past_lines(src: &[u8], at: usize) -> usize
     ensures { result ≡ past_lines src.now at }
 {
     let mut i = at;
+    // A while: a newline may have two bytes.
     while i < src.len() {
         let next = after_line(src, i);
         if next == i {
@@ -88,10 +89,7 @@ pub fn past_lines(src: &[u8], at: usize) -> usize
 fn gap(start: usize, end: usize) -> usize
     ensures { result ≡ end - start }
 {
-    if start <= end {
-        return end - start;
-    }
-    0
+    end.saturating_sub(start)
 }
 
 // A token that is a label of at most 64 bytes.
@@ -173,6 +171,7 @@ pub fn walk_labels(src: &[u8], at: usize) -> Walk
     let mut i = at;
     let mut labelled = false;
     let mut colon = false;
+    // A loop: each token says where the next one is looked for.
     loop {
         let start = base_text::run_end(src, i, Class::Space);
         if base_text::byte_at(src, start) == b'\n' {

@@ -16,6 +16,7 @@ pub fn string_size(src: &[u8], at: usize) -> usize
 {
     let mut i = at;
     let mut count: usize = 0;
+    // A loop: what stands where a run ends says where to go on.
     loop {
         let stop = base_runs::plain_end(src, i);
         count += stop - i;

@@ -1,4 +1,8 @@
 -- Operands after operands: the code's reading is the rules'. Assumes nothing.
+use Rattle.std.specs.declared.result.Result.{Result}
+use Rattle.std.specs.declared.result.Result.TheVariants.{Ok, Err}
+use Rattle.base_refusals.specs.declared.Fault.{Fault}
+use Rattle.base_refusals.specs.Refusals.{fault}
 use Prim.Native.Nat.{ℕ, zero, suc, ◌+◌, ◌*◌, ◌≤◌, ◌<◌}
 use mathlib.Core.Path.{◌≡◌, refl, sym, ◌∙◌, ap}
 use mathlib.Core.Bool.{false}
@@ -22,18 +26,13 @@ use Rattle.lex.specs.Sorts.{kind_by, Stands}
 use Rattle.lex.proofs.Peek.{peek-from, peek, peek-not}
 use Rattle.parse_field.specs.declared.Field as code
 use Rattle.parse_field.specs.declared.Given.{Given}
-use Rattle.parse_field.specs.declared.Step.{Step}
-use Rattle.parse_field.specs.declared.Step.TheVariants.{Took, Refused}
 use Rattle.parse_field.specs.Coded.{field_of, given, add_to, told, operand_given, operand_step, Below, Adds}
 use Rattle.parse_rows.specs.Rows.{fields_by}
-use Rattle.parse_operands.specs.declared.Due.{Due}
-use Rattle.parse_operands.specs.declared.Due.TheVariants.{At}
-use Rattle.parse_operands.specs.declared.Due.TheVariants as due
 use Rattle.parse_operands.specs.Lines.{field_in, due_at, coded_due, next_step, coded_given, coded_step, line_step}
 
 -- WHERE AN OPERAND IS DUE
 module _ (s : List ℕ) (k i : ℕ) where
-  pub due-first : k ≡ 0 → At i ≡ coded_due (due_at s k i)
+  pub due-first : k ≡ 0 → Ok i ≡ coded_due (due_at s k i)
   unfolding due_at coded_due when◌then◌else◌
   due-first e = rw (eq-eqb k 0 e)
 
@@ -43,20 +42,20 @@ module _ (s : List ℕ) (k i : ℕ) where
     due-comma = rw (ne_eqb k 0 n)
 
     module _ (p : ℕ) (e : p ≡ run_end class.Space s i) (c : ℕ) (q : c ≡ get_or s p 0) where
-      pub due-behind : c ≡ 44 → At (p + 1) ≡ coded_due (due_at s k i)
+      pub due-behind : c ≡ 44 → Ok (p + 1) ≡ coded_due (due_at s k i)
       unfolding coded_due comma_at is_mark
       due-behind x =
           let y : comma_at s i ≡ ok (p + 1) = rw (peek s i p e 44 (sym x ∙ q) refl, comma_at) in
           sym (ap coded_due (due-comma ∙ y))
 
       module _ (x : c ≡ 44 → ⊥) (t : Lexeme) (h : Stands s p t) where
-        pub due-bad : t.sort ≡ fault_sort → due.Refused t.value t.start t.end ≡ coded_due (due_at s k i)
+        pub due-bad : t.sort ≡ fault_sort → Err (fault t.value t.start t.end) ≡ coded_due (due_at s k i)
         unfolding coded_due comma_at
         due-bad z =
             let y : comma_at s i ≡ refuse t.value (span t.start t.end) = rw (peek-from s i p e ∙ h.bad (omega arith), comma_at) in
             sym (ap coded_due (due-comma ∙ y))
 
-        pub due-other : (t.sort ≡ fault_sort → ⊥) → due.Refused 13 t.start t.end ≡ coded_due (due_at s k i)
+        pub due-other : (t.sort ≡ fault_sort → ⊥) → Err (fault 13 t.start t.end) ≡ coded_due (due_at s k i)
         unfolding coded_due comma_at
         due-other z =
             let o : next_token s i ≡ ok (token_in (kind_by s t.sort t) (span t.start t.end)) = peek-from s i p e ∙ h.token (omega (arith, h.known)) in
@@ -64,22 +63,22 @@ module _ (s : List ℕ) (k i : ℕ) where
             let y : comma_at s i ≡ refuse 13 (span t.start t.end) = rw (o, comma_at, n) in
             sym (ap coded_due (due-comma ∙ y))
 
-module _ (s : List ℕ) (k : ℕ) (g : Given) (f : Field) (other : ℕ) (r : Step) where
-  pub next-at : (d : Due) → d ≡ coded_due (due_at s k g.stop) → (i : ℕ) → d ≡ At i → Adds g r (operand_step s f other g i) → Adds g r (next_step s k f other g)
+module _ (s : List ℕ) (k : ℕ) (g : Given) (f : Field) (other : ℕ) (r : Result Given Fault) where
+  pub next-at : (d : Result ℕ Fault) → d ≡ coded_due (due_at s k g.stop) → (i : ℕ) → d ≡ Ok i → Adds g r (operand_step s f other g i) → Adds g r (next_step s k f other g)
   unfolding next_step operand_step coded_due
   next-at d e i q a = go (due_at s k g.stop) (sym q ∙ e)
     where
-      go : (o : Outcome ℕ) → At i ≡ coded_due o → Adds g r (told (o >>= λ j. operand_given s f other g j))
+      go : (o : Outcome ℕ) → Ok i ≡ coded_due o → Adds g r (told (o >>= λ j. operand_given s f other g j))
       go (ok j) p = let z : i ≡ j = cc in rw (← z) a
       go (refused x) p = never cc
 
-  pub next-refused : (d : Due) → d ≡ coded_due (due_at s k g.stop) → (n a e : ℕ) → d ≡ due.Refused n a e → r ≡ Refused n a e → Adds g r (next_step s k f other g)
+  pub next-refused : (d : Result ℕ Fault) → d ≡ coded_due (due_at s k g.stop) → (x : Fault) → d ≡ Err x → r ≡ Err x → Adds g r (next_step s k f other g)
   unfolding next_step coded_due told Below
-  next-refused d c n a e q h = go (due_at s k g.stop) (sym q ∙ c)
+  next-refused d c x q h = go (due_at s k g.stop) (sym q ∙ c)
     where
-      go : (o : Outcome ℕ) → due.Refused n a e ≡ coded_due o → Adds g r (told (o >>= λ j. operand_given s f other g j))
+      go : (o : Outcome ℕ) → Err x ≡ coded_due o → Adds g r (told (o >>= λ j. operand_given s f other g j))
       go (ok j) p = never cc
-      go (refused x) p = rw h (record { is = cc; room = tt })
+      go (refused y) p = rw h (record { is = cc; room = tt })
 
 -- WHAT THE RULES GIVE
 add-coded : (g : rules.Given) (p : Piece) (i : ℕ) → add_to (coded_given g) p i ≡ coded_given (add g p i)
@@ -94,7 +93,7 @@ module _ (s : List ℕ) (f : Field) (other : ℕ) where
   operand-coded g i = by_token (next_token s i)
     where
       by-piece : (o : Outcome Piece) (j : ℕ) → told (o >>= λ p. ok (add_to (coded_given g) p j)) ≡ coded_step (o >>= λ p. ok (add g p j))
-      by-piece (ok p) j = ap Took (add-coded g p j)
+      by-piece (ok p) j = ap Ok (add-coded g p j)
       by-piece (refused r) j = refl
 
       by_token : (o : Outcome Token) → told (o >>= λ t. operand f other t >>= λ p. ok (add_to (coded_given g) p t.place.stop)) ≡ coded_step (o >>= λ t. operand f other t >>= λ p. ok (add g p t.place.stop))
@@ -147,7 +146,7 @@ module _ (s : List ℕ) (other : ℕ) where
       room = rw e (omega arith);
     }
 
-    pub mid-end : (k : ℕ) (g : Given) → Midway fs w at k g → length fs ≤ k → Took g ≡ line_step s fs other w at
+    pub mid-end : (k : ℕ) (g : Given) → Midway fs w at k g → length fs ≤ k → Ok g ≡ line_step s fs other w at
     unfolding line_step coded_step rest_from
     mid-end k g m l =
         let q : operands_from s fs other (bare w at) ≡ ok m.done = rw (drop_of_length-le fs l) at m.left in
@@ -164,19 +163,19 @@ module _ (s : List ℕ) (other : ℕ) where
       here-step : next_step s k f other g ≡ coded_step here
       here-step = ap (next_step s k f other) m.is ∙ next-coded s f other k m.done
 
-      pub mid-refused : (r : Step) (n a z : ℕ) → Adds g r (next_step s k f other g) → r ≡ Refused n a z → r ≡ line_step s fs other w at
+      pub mid-refused : (r : Result Given Fault) (x : Fault) → Adds g r (next_step s k f other g) → r ≡ Err x → r ≡ line_step s fs other w at
       unfolding line_step coded_step
-      mid-refused r n a z d q = go here refl (sym q ∙ d.is ∙ here-step)
+      mid-refused r x d q = go here refl (sym q ∙ d.is ∙ here-step)
         where
-          go : (o : Outcome rules.Given) → here ≡ o → Refused n a z ≡ coded_step o → r ≡ coded_step (operands_from s fs other (bare w at))
+          go : (o : Outcome rules.Given) → here ≡ o → Err x ≡ coded_step o → r ≡ coded_step (operands_from s fs other (bare w at))
           go (ok h) p c = never cc
-          go (refused x) p c = q ∙ c ∙ sym (ap coded_step (here-left ∙ ap (λ (o : Outcome rules.Given). o >>= more_from s gs other) p))
+          go (refused y) p c = q ∙ c ∙ sym (ap coded_step (here-left ∙ ap (λ (o : Outcome rules.Given). o >>= more_from s gs other) p))
 
-      pub mid-on : drop (k + 1) fs ≡ gs → (r : Step) (h : Given) → Adds g r (next_step s k f other g) → r ≡ Took h → Midway fs w at (k + 1) h
+      pub mid-on : drop (k + 1) fs ≡ gs → (r : Result Given Fault) (h : Given) → Adds g r (next_step s k f other g) → r ≡ Ok h → Midway fs w at (k + 1) h
       unfolding coded_step Below
       mid-on b r h d q = go here refl (sym q ∙ d.is ∙ here-step)
         where
-          go : (o : Outcome rules.Given) → here ≡ o → Took h ≡ coded_step o → Midway fs w at (k + 1) h
+          go : (o : Outcome rules.Given) → here ≡ o → Ok h ≡ coded_step o → Midway fs w at (k + 1) h
           go (refused x) p c = never cc
           go (ok x) p c =
               let y : h ≡ coded_given x = cc in
@@ -190,18 +189,6 @@ module _ (s : List ℕ) (other : ℕ) where
 
 -- A ROW'S FIELDS
 module _ (a b c : code.Field) where
-  pub few-fields : (n : ℕ) → n < 3 → n ≡ length (fields_by n a b c)
-  few-fields zero l = refl
-  few-fields (suc zero) l = refl
-  few-fields (suc (suc zero)) l = refl
-  few-fields (suc (suc (suc n))) l = absurd (omega arith)
-
-  pub three-fields : (n : ℕ) → 3 ≤ n → 3 ≡ length (fields_by n a b c)
-  three-fields zero l = absurd (omega arith)
-  three-fields (suc zero) l = absurd (omega arith)
-  three-fields (suc (suc zero)) l = absurd (omega arith)
-  three-fields (suc (suc (suc n))) l = refl
-
   pub third-field : (k : ℕ) → (k ≡ 0 → ⊥) → (k ≡ 1 → ⊥) → c ≡ field_in k a b c
   third-field zero p q = absurd (p refl)
   third-field (suc zero) p q = absurd (q refl)
@@ -222,7 +209,7 @@ module _ (a b c : code.Field) where
 
 -- A ROW'S OPERANDS
 module _ (s : List ℕ) (other w at n : ℕ) (a b c : code.Field) (count k : ℕ) (g : Given) (m : Midway s other (fields_by n a b c) w at k g) (size : count ≡ length (fields_by n a b c)) where
-  pub row-end : count ≤ k → Took g ≡ line_step s (fields_by n a b c) other w at
+  pub row-end : count ≤ k → Ok g ≡ line_step s (fields_by n a b c) other w at
   row-end l = mid-end s other (fields_by n a b c) w at k g m (omega arith)
 
   module _ (most : count ≤ 3) (l : k < count) where
@@ -233,8 +220,8 @@ module _ (s : List ℕ) (other w at n : ℕ) (a b c : code.Field) (count k : ℕ
       field-here : drop k (fields_by n a b c) ≡ field_of x ∷ drop (k + 1) (fields_by n a b c)
       field-here = rw e (field_is a b c k (omega arith) n (omega arith))
 
-      pub row-refused : (r : Step) (i j z : ℕ) → Adds g r (next_step s k (field_of x) other g) → r ≡ Refused i j z → r ≡ line_step s (fields_by n a b c) other w at
-      row-refused r i j z d q = mid-refused s other (fields_by n a b c) w at k g m (field_of x) (drop (k + 1) (fields_by n a b c)) field-here r i j z d q
+      pub row-refused : (r : Result Given Fault) (y : Fault) → Adds g r (next_step s k (field_of x) other g) → r ≡ Err y → r ≡ line_step s (fields_by n a b c) other w at
+      row-refused r y d q = mid-refused s other (fields_by n a b c) w at k g m (field_of x) (drop (k + 1) (fields_by n a b c)) field-here r y d q
 
-      pub row_on : (r : Step) (h : Given) → Adds g r (next_step s k (field_of x) other g) → r ≡ Took h → Midway s other (fields_by n a b c) w at (k + 1) h
+      pub row_on : (r : Result Given Fault) (h : Given) → Adds g r (next_step s k (field_of x) other g) → r ≡ Ok h → Midway s other (fields_by n a b c) w at (k + 1) h
       row_on r h d q = mid-on s other (fields_by n a b c) w at k g m (field_of x) (drop (k + 1) (fields_by n a b c)) field-here refl r h d q

@@ -1,4 +1,8 @@
 -- A statement's operands as the code has them. Assumes nothing.
+use Rattle.std.specs.declared.result.Result.{Result}
+use Rattle.std.specs.declared.result.Result.TheVariants.{Ok, Err}
+use Rattle.base_refusals.specs.declared.Fault.{Fault}
+use Rattle.base_refusals.specs.Refusals.{fault}
 use Rattle.std.specs.Prelude.{ℕ, zero, suc, List, eqb}
 use Rattle.std.proofs.Math.Option.{Option, none, some}
 use Rattle.rules.specs.Base.{when◌then◌else◌, Outcome, ok, refused, ◌>>=◌}
@@ -6,13 +10,8 @@ use Rattle.rules.specs.Words.{Field}
 use Rattle.rules.specs.Statements.{Target, bare, comma_at, operands_from}
 use Rattle.rules.specs.Statements as rules
 use Rattle.parse_field.specs.declared.Given.{Given}
-use Rattle.parse_field.specs.declared.Step.{Step}
-use Rattle.parse_field.specs.declared.Step.TheVariants.{Took, Refused}
 use Rattle.parse_field.specs.Coded.{given, told, operand_given}
 use Rattle.parse_field.specs.declared.Field as code
-use Rattle.parse_operands.specs.declared.Due.{Due}
-use Rattle.parse_operands.specs.declared.Due.TheVariants.{At}
-use Rattle.parse_operands.specs.declared.Due.TheVariants as due
 
 -- the field of operand k
 abbrev pub field_in : ℕ → (a b c : code.Field) → code.Field
@@ -24,12 +23,12 @@ field_in (suc (suc k)) a b c = c
 unfoldable pub due_at : List ℕ → (k i : ℕ) → Outcome ℕ
 due_at s k i = when eqb k 0 then ok i else comma_at s i
 
-unfoldable pub coded_due : Outcome ℕ → Due
-coded_due (ok i) = At i
-coded_due (refused r) = due.Refused r.number r.first.start r.first.stop
+unfoldable pub coded_due : Outcome ℕ → Result ℕ Fault
+coded_due (ok i) = Ok i
+coded_due (refused r) = Err (fault r.number r.first.start r.first.stop)
 
 -- operand k, behind what is given
-unfoldable pub next_step : List ℕ → ℕ → Field → ℕ → Given → Step
+unfoldable pub next_step : List ℕ → ℕ → Field → ℕ → Given → Result Given Fault
 next_step s k f other g = told (due_at s k g.stop >>= λ j. operand_given s f other g j)
 
 -- WHAT THE RULES GIVE, AS THE CODE TELLS IT
@@ -50,10 +49,10 @@ label_end (some t) = t.name.place.stop
 unfoldable pub coded_given : rules.Given → Given
 coded_given g = given g.bits (reach_of g.target) (label_start g.target) (label_end g.target) g.quote.start g.quote.stop g.stop
 
-unfoldable pub coded_step : Outcome rules.Given → Step
-coded_step (ok g) = Took (coded_given g)
-coded_step (refused r) = Refused r.number r.first.start r.first.stop
+unfoldable pub coded_step : Outcome rules.Given → Result Given Fault
+coded_step (ok g) = Ok (coded_given g)
+coded_step (refused r) = Err (fault r.number r.first.start r.first.stop)
 
 -- all operands of a row whose word this is, from a place on
-unfoldable pub line_step : List ℕ → List Field → (other word at : ℕ) → Step
+unfoldable pub line_step : List ℕ → List Field → (other word at : ℕ) → Result Given Fault
 line_step s fs other w i = coded_step (operands_from s fs other (bare w i))

@@ -1,13 +1,19 @@
 -- Pass one over statement after statement, as its loop goes. Assumes nothing.
+use Rattle.std.specs.declared.result.Result.{Result}
+use Rattle.std.specs.declared.result.Result.TheVariants.{Ok, Err}
+use Rattle.std.specs.declared.option.Option as O
+use Rattle.std.specs.declared.option.Option.TheVariants.{Some, None}
+use Rattle.base_refusals.specs.declared.Fault.{Fault}
+use Rattle.base_refusals.specs.Refusals.{fault}
 use mathlib.Core.Path.{◌≡◌, refl, sym, ◌∙◌, ap, subst}
 use mathlib.Core.Bool.{true, false}
 use mathlib.Core.List.{List, [], ◌∷◌}
 use mathlib.Core.Option.{none, some}
-use Prim.Native.Nat.{ℕ, ◌+◌, ◌-◌, ◌≤◌}
+use Prim.Native.Nat.{ℕ, ◌+◌, ◌≤◌}
 use native.Mathlib.Omega.{arith}
 use lib.ListN.{length}
 use Rattle.rules.specs.Base.{Outcome, ok, refused, refuse, ◌>>=◌}
-use Rattle.rules.specs.Statements.{Stmt, Read, next_statement, statements_at, statements}
+use Rattle.rules.specs.Statements.{Stmt, next_statement, statements_at, statements}
 use Rattle.rules.specs.Passes.{Pass1State, pass1_state, pass1_start, Cursor, Symbol, step_one, pass_one}
 use Rattle.rules.specs.Tables.{Table}
 use Rattle.rules.specs.Objects.{Name}
@@ -19,8 +25,6 @@ use Rattle.base_refusals.specs.declared.Refusal.{Refusal}
 use Rattle.pass1_symbols.specs.Symbols.{symbols}
 use Rattle.pass1_relocations.specs.Pending.{notes}
 use Rattle.parse.specs.declared.Statement.{Statement}
-use Rattle.parse.specs.declared.NextStatement.{NextStatement}
-use Rattle.parse.specs.declared.NextStatement.TheVariants as next
 use Rattle.parse.specs.Coded.{coded_read, coded_statement, AllRead}
 use Rattle.parse.proofs.All.{WasRead, was_read, was-end, was-refused}
 use Rattle.parse_labels.specs.Walk.{Heads}
@@ -28,8 +32,6 @@ use Rattle.parse_labels.proofs.Before.{heads-read}
 use Rattle.parse_meaning.specs.Reading.{Faithful}
 use Rattle.parse_meaning.proofs.Read.{faithful}
 use Rattle.pass1_state.specs.declared.Pass1State as code
-use Rattle.pass1_state.specs.declared.Pass1Step.{Pass1Step}
-use Rattle.pass1_state.specs.declared.Pass1Step.TheVariants.{Went, Refused}
 use Rattle.pass1_state.specs.State.{view_pass1, told, Steady, fresh}
 use Rattle.pass1_state.specs.State as counting
 use Rattle.pass1_state.proofs.Counting.{went, stuck}
@@ -52,10 +54,10 @@ module _ (o : code.Pass1State) (h : Steady o) where
   abbrev Finishing : (ℕ → Table Name Symbol) → (ℕ → Table ℕ Name) → Outcome Pass1State
   Finishing x y = pass_one [] (view_pass1 x y o)
 
-  pub finish-open : o.inside ≡ true → (r : Pass1Step) → r ≡ Refused (refusal_at 22 o.orig_start o.orig_end) → counting.Stepping o Finishing r
+  pub finish-open : o.inside ≡ true → (r : Result code.Pass1State Refusal) → r ≡ Err (refusal_at 22 o.orig_start o.orig_end) → counting.Stepping o Finishing r
   finish-open i r q = rw q (stuck o Finishing (refusal_at 22 o.orig_start o.orig_end) (λ x y. rw i (sym (pass-open _ _ _ _ _))))
 
-  pub finish-shut : o.inside ≡ false → counting.Stepping o Finishing (Went o)
+  pub finish-shut : o.inside ≡ false → counting.Stepping o Finishing (Ok o)
   finish-shut i = went o Finishing o (record { steady = h; labels = refl; relocations = refl }) (λ x y. rw i (sym (pass-shut _ _ _ _)))
 
 -- THE LOOP
@@ -97,12 +99,12 @@ module _ (rs qs src : List ℕ) (size : length src ≤ 262144) (room : 6144 ≤ 
   pub going_start : (o : code.Pass1State) → o ≡ fresh → Going rs qs rs qs src 0 o
   going_start o e = rw e (record { held = held_none; long = refl; far = refl; left = left-all; back = back-all })
 
-module _ (rs₀ qs₀ rs qs src : List ℕ) (at : ℕ) (o : code.Pass1State) (g : Going rs₀ qs₀ rs qs src at o) (x : NextStatement) (h : x ≡ coded_statement (next_statement src at)) where
+module _ (rs₀ qs₀ rs qs src : List ℕ) (at : ℕ) (o : code.Pass1State) (g : Going rs₀ qs₀ rs qs src at o) (x : Result (O.Option Statement) Fault) (h : x ≡ coded_statement (next_statement src at)) where
   -- a source whose statements are refused
-  pub going-stop : (n a e : ℕ) → x ≡ next.Refused n a e → (r : Pass1Step) → r ≡ Refused (refusal_at n a e) → PassedOne rs qs src r
-  going-stop n a e q r z = rw z (record {
+  pub going-stop : (f : Fault) → x ≡ Err f → (r : Result code.Pass1State Refusal) → r ≡ Err (refusal_at f.number f.start f.end) → PassedOne rs qs src r
+  going-stop f q r z = rw z (record {
     rule = λ ss y. (
-        let w = was-refused (next_statement src at) n a e (sym h ∙ q) in
+        let w = was-refused (next_statement src at) f (sym h ∙ q) in
         let l = g.left ss y in
         let m : ok l.rest ≡ refused w.refusal = sym l.is ∙ statements-refused src at w.refusal w.is in
         never cc);
@@ -111,7 +113,7 @@ module _ (rs₀ qs₀ rs qs src : List ℕ) (at : ℕ) (o : code.Pass1State) (g 
   })
 
   -- the end
-  pub going_end : x ≡ next.End → (r : Pass1Step) → counting.Stepping o (λ x y. pass_one [] (view_pass1 x y o)) r → PassedOne rs qs src r
+  pub going_end : x ≡ Ok None → (r : Result code.Pass1State Refusal) → counting.Stepping o (λ x y. pass_one [] (view_pass1 x y o)) r → PassedOne rs qs src r
   going_end q r k =
       let j = over_none rs qs src o g.held (λ v. pass_one [] v) r k in
       record {
@@ -125,7 +127,7 @@ module _ (rs₀ qs₀ rs qs src : List ℕ) (at : ℕ) (o : code.Pass1State) (g 
       }
 
   -- a statement
-  module _ (st : Statement) (q : x ≡ next.Read st) where
+  module _ (st : Statement) (q : x ≡ Ok (Some st)) where
     it : WasRead (next_statement src at) st
     it = was_read (next_statement src at) st (sym h ∙ q)
 
@@ -143,7 +145,7 @@ module _ (rs₀ qs₀ rs qs src : List ℕ) (at : ℕ) (o : code.Pass1State) (g 
     unfolding coded_read
     going-heads = subst (Heads src at) (ap (λ (y : Statement). y.start) it.coded) (heads-read src at it.read it.is)
 
-    module _ (rs' qs' : List ℕ) (a : Pass1Step) (k : (s : Stmt) → Faithful src at st s → Stepping rs qs src rs' qs' o (step_one s) a) where
+    module _ (rs' qs' : List ℕ) (a : Result code.Pass1State Refusal) (k : (s : Stmt) → Faithful src at st s → Stepping rs qs src rs' qs' o (step_one s) a) where
       step : Stepping rs qs src rs' qs' o (step_one it.read.stmt) a
       step = k it.read.stmt true-to
 
@@ -166,27 +168,27 @@ module _ (rs₀ qs₀ rs qs src : List ℕ) (at : ℕ) (o : code.Pass1State) (g 
                 ∙ (ap (λ (t : List Stmt). pass_one t (seen rs qs src o)) m ∙ l.same));
           }
 
-      pub going_on : (b : code.Pass1State) → a ≡ Went b → length rs' ≡ length rs → length qs' ≡ length qs → Going rs₀ qs₀ rs' qs' src st.next b
+      pub going_on : (b : code.Pass1State) → a ≡ Ok b → length rs' ≡ length rs → length qs' ≡ length qs → Going rs₀ qs₀ rs' qs' src st.next b
       going_on b z m n = record {
         held = step.kept b z;
         long = m ∙ g.long;
         far = n ∙ g.far;
         left = λ ss y. (
             let w = after ss y in
-            record { rest = w.rest; is = w.is; same = sym (ap (λ (t : Pass1Step). told (λ n. symbols n rs' src) (λ n. notes n qs' src) t >>= pass_one w.rest) z) ∙ w.same });
+            record { rest = w.rest; is = w.is; same = sym (ap (λ (t : Result code.Pass1State Refusal). told (λ n. symbols n rs' src) (λ n. notes n qs' src) t >>= pass_one w.rest) z) ∙ w.same });
         back = λ rest e. g.back (it.read.stmt ∷ rest) (statements-on src at it.read it.is ∙ rw (nexts, e));
       }
 
-      pub going-refused : (f : Refusal) → a ≡ Refused f → PassedOne rs' qs' src a
+      pub going-refused : (f : Refusal) → a ≡ Err f → PassedOne rs' qs' src a
       going-refused f z = record {
         rule = λ ss y. (
             let w = after ss y in
             ap (told (λ n. symbols n rs' src) (λ n. notes n qs' src)) z
-            ∙ (sym (ap (λ (t : Pass1Step). told (λ n. symbols n rs' src) (λ n. notes n qs' src) t >>= pass_one w.rest) z) ∙ w.same));
+            ∙ (sym (ap (λ (t : Result code.Pass1State Refusal). told (λ n. symbols n rs' src) (λ n. notes n qs' src) t >>= pass_one w.rest) z) ∙ w.same));
         kept = step.kept;
-        read = λ o' y. (let u : Went o' ≡ Refused f = sym y ∙ z in never cc);
+        read = λ o' y. (let u : Ok o' ≡ Err f = sym y ∙ z in never cc);
       }
 
     -- one that only counts
     pub going-counts : Counts st o → (b : code.Pass1State) → b ≡ counting.counting o (o.counter + 1) → Going rs₀ qs₀ rs qs src st.next b
-    going-counts w b e = going_on rs qs (Went b) (step_counts rs qs src o g.held st w b e at) b refl refl refl
+    going-counts w b e = going_on rs qs (Ok b) (step_counts rs qs src o g.held st w b e at) b refl refl refl

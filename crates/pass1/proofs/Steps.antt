@@ -1,4 +1,6 @@
 -- What each way through a step of pass one shows. Assumes nothing.
+use Rattle.std.specs.declared.result.Result.{Result}
+use Rattle.std.specs.declared.result.Result.TheVariants.{Ok, Err}
 use mathlib.Core.Path.{◌≡◌, refl, sym, ◌∙◌, ap}
 use mathlib.Core.Bool.{Bool, true, false, not, ◌&&◌}
 use mathlib.Core.List.{List}
@@ -22,8 +24,6 @@ use Rattle.parse_rows.specs.declared.Op.TheVariants.{Instr, Orig, Fill, Blkw, St
 use Rattle.parse_rows.specs.declared.Op.TheVariants as op
 use Rattle.parse_meaning.specs.Reading.{meant_op, Faithful}
 use Rattle.pass1_state.specs.declared.Pass1State as code
-use Rattle.pass1_state.specs.declared.Pass1Step.{Pass1Step}
-use Rattle.pass1_state.specs.declared.Pass1Step.TheVariants.{Went, Refused}
 use Rattle.pass1_state.specs.State.{view_pass1, told, Steady, counting}
 use Rattle.pass1_state.specs.State as steps
 use Rattle.pass1_state.proofs.Counting.{step-on}
@@ -34,13 +34,13 @@ use Rattle.pass1_directive.proofs.Directing.{sound, over_none, over-names}
 use Rattle.pass1.specs.Steps.{one_word, only_counts, step_on, Stands}
 
 -- ONE STEP AFTER ANOTHER
-module _ (rs qs src rs' qs' : List ℕ) (o : code.Pass1State) (f : Pass1State → Outcome Pass1State) (a : Pass1Step) (k : Stepping rs qs src rs' qs' o f a) (g : Pass1State → Outcome Pass1State) where
-  then-went : (b : code.Pass1State) → a ≡ Went b → (rs'' qs'' : List ℕ) (r : Pass1Step) → Stepping rs' qs' src rs'' qs'' b g r → Stepping rs qs src rs'' qs'' o (λ v. f v >>= g) r
+module _ (rs qs src rs' qs' : List ℕ) (o : code.Pass1State) (f : Pass1State → Outcome Pass1State) (a : Result code.Pass1State Refusal) (k : Stepping rs qs src rs' qs' o f a) (g : Pass1State → Outcome Pass1State) where
+  then-went : (b : code.Pass1State) → a ≡ Ok b → (rs'' qs'' : List ℕ) (r : Result code.Pass1State Refusal) → Stepping rs' qs' src rs'' qs'' b g r → Stepping rs qs src rs'' qs'' o (λ v. f v >>= g) r
   then-went b q rs'' qs'' r j =
       let w : f (seen rs qs src o) ≡ ok (seen rs' qs' src b) = sym k.rule ∙ ap (told (λ n. symbols n rs' src) (λ n. notes n qs' src)) q in
       record { rule = j.rule ∙ sym (ap (λ (x : Outcome Pass1State). x >>= g) w); kept = j.kept }
 
-  then-refused : (x : Refusal) → a ≡ Refused x → Stepping rs qs src rs' qs' o (λ v. f v >>= g) a
+  then-refused : (x : Refusal) → a ≡ Err x → Stepping rs qs src rs' qs' o (λ v. f v >>= g) a
   then-refused x q =
       let w : f (seen rs qs src o) ≡ refused_by x = sym k.rule ∙ ap (told (λ n. symbols n rs' src) (λ n. notes n qs' src)) q in
       record {
@@ -55,20 +55,20 @@ stands-sound src st w = sound src w.at st w.stmt w.faithful
 pub stands-low : (src : List ℕ) (st : Statement) → Stands src st → st.bits < 65536
 stands-low src st w = (stands-sound src st w).low
 
-module _ (rs qs src : List ℕ) (o : code.Pass1State) (st : Statement) (w : Stands src st) (rs' qs' : List ℕ) (a : Pass1Step)
+module _ (rs qs src : List ℕ) (o : code.Pass1State) (st : Statement) (w : Stands src st) (rs' qs' : List ℕ) (a : Result code.Pass1State Refusal)
     (k : (at : ℕ) (s : Stmt) → Faithful src at st s → Stepping rs qs src rs' qs' o (λ v. directed s.op s v) a) where
-  pub on-refused : (x : Refusal) → a ≡ Refused x → (at : ℕ) (s : Stmt) → Faithful src at st s → Stepping rs qs src rs' qs' o (step_on s) a
+  pub on-refused : (x : Refusal) → a ≡ Err x → (at : ℕ) (s : Stmt) → Faithful src at st s → Stepping rs qs src rs' qs' o (step_on s) a
   unfolding step_on
   on-refused x q at s f = then-refused rs qs src rs' qs' o (λ v. directed s.op s v) a (k at s f) (λ b. advanced (word_len s.op s) s.place b) x q
 
-  module _ (b : code.Pass1State) (q : a ≡ Went b) where
+  module _ (b : code.Pass1State) (q : a ≡ Ok b) where
     on-held : Held rs' qs' src b
     on-held = (k w.at w.stmt w.faithful).kept b q
 
     pub on-steady : Steady b
     on-steady = on-held.lent.steady
 
-    pub on-went : (n : ℕ) → ((at : ℕ) (s : Stmt) → Faithful src at st s → n ≡ word_len s.op s) → (r : Pass1Step)
+    pub on-went : (n : ℕ) → ((at : ℕ) (s : Stmt) → Faithful src at st s → n ≡ word_len s.op s) → (r : Result code.Pass1State Refusal)
         → steps.Stepping b (λ x y. advanced n (span st.start st.end) (view_pass1 x y b)) r → (at : ℕ) (s : Stmt) → Faithful src at st s → Stepping rs qs src rs' qs' o (step_on s) r
     unfolding step_on
     on-went n z r j at s f =
@@ -80,7 +80,7 @@ module _ (rs qs src : List ℕ) (o : code.Pass1State) (st : Statement) (w : Stan
         then-went rs qs src rs' qs' o (λ v. directed s.op s v) a (k at s f) (λ b. advanced (word_len s.op s) s.place b) b q rs' qs' r v
 
 -- WITHOUT LABELS
-module _ (rs qs src : List ℕ) (o : code.Pass1State) (st : Statement) (rs' qs' : List ℕ) (r : Pass1Step) (z : st.labelled ≡ false)
+module _ (rs qs src : List ℕ) (o : code.Pass1State) (st : Statement) (rs' qs' : List ℕ) (r : Result code.Pass1State Refusal) (z : st.labelled ≡ false)
     (k : (at : ℕ) (s : Stmt) → Faithful src at st s → Stepping rs qs src rs' qs' o (step_on s) r) where
   pub step-bare : (at : ℕ) (s : Stmt) → Faithful src at st s → Stepping rs qs src rs' qs' o (step_one s) r
   unfolding step_one step_on labelled
@@ -89,10 +89,10 @@ module _ (rs qs src : List ℕ) (o : code.Pass1State) (st : Statement) (rs' qs' 
       record { rule = (k at s f).rule ∙ sym q; kept = (k at s f).kept }
 
 -- FROM THE LABELS ON
-pub step-held : (rs qs src : List ℕ) (o : code.Pass1State) → Held rs qs src o → (rs' : List ℕ) (f : Pass1State → Outcome Pass1State) (a : Pass1Step) → naming.Stepping rs src rs' o f a → (b : code.Pass1State) → a ≡ Went b → Held rs' qs src b
+pub step-held : (rs qs src : List ℕ) (o : code.Pass1State) → Held rs qs src o → (rs' : List ℕ) (f : Pass1State → Outcome Pass1State) (a : Result code.Pass1State Refusal) → naming.Stepping rs src rs' o f a → (b : code.Pass1State) → a ≡ Ok b → Held rs' qs src b
 step-held rs qs src o h rs' f a k b q = (over-names rs qs src o h rs' f a k).kept b q
 
-module _ (rs qs src : List ℕ) (o : code.Pass1State) (h : Held rs qs src o) (st : Statement) (at : ℕ) (rs' : List ℕ) (a : Pass1Step)
+module _ (rs qs src : List ℕ) (o : code.Pass1State) (h : Held rs qs src o) (st : Statement) (at : ℕ) (rs' : List ℕ) (a : Result code.Pass1State Refusal)
     (k : naming.Stepping rs src rs' o (λ v. labelled (labels_at src at) (span st.start st.end) v) a) where
   both : Stepping rs qs src rs' qs o (λ v. labelled (labels_at src at) (span st.start st.end) v) a
   both = over-names rs qs src o h rs' (λ v. labelled (labels_at src at) (span st.start st.end) v) a k
@@ -100,12 +100,12 @@ module _ (rs qs src : List ℕ) (o : code.Pass1State) (h : Held rs qs src o) (st
   labels-by : (s : Stmt) → Faithful src at st s → Stepping rs qs src rs' qs o (λ v. labelled s.labels s.place v) a
   labels-by s f = record { rule = both.rule ∙ (λ i. labelled (sym f.labels i) (sym f.place i) (seen rs qs src o)); kept = both.kept }
 
-  pub step-refused : (x : Refusal) → a ≡ Refused x → (s : Stmt) → Faithful src at st s → Stepping rs qs src rs' qs o (step_one s) a
+  pub step-refused : (x : Refusal) → a ≡ Err x → (s : Stmt) → Faithful src at st s → Stepping rs qs src rs' qs o (step_one s) a
   unfolding step_one step_on
   step-refused x q s f = then-refused rs qs src rs' qs o (λ v. labelled s.labels s.place v) a (labels-by s f) (step_on s) x q
 
-  module _ (b : code.Pass1State) (q : a ≡ Went b) where
-    pub step_went : (rs'' qs'' : List ℕ) (r : Pass1Step) → ((at : ℕ) (s : Stmt) → Faithful src at st s → Stepping rs' qs src rs'' qs'' b (step_on s) r) → (s : Stmt) → Faithful src at st s → Stepping rs qs src rs'' qs'' o (step_one s) r
+  module _ (b : code.Pass1State) (q : a ≡ Ok b) where
+    pub step_went : (rs'' qs'' : List ℕ) (r : Result code.Pass1State Refusal) → ((at : ℕ) (s : Stmt) → Faithful src at st s → Stepping rs' qs src rs'' qs'' b (step_on s) r) → (s : Stmt) → Faithful src at st s → Stepping rs qs src rs'' qs'' o (step_one s) r
     unfolding step_one step_on
     step_went rs'' qs'' r j s f = then-went rs qs src rs' qs o (λ v. labelled s.labels s.place v) a (labels-by s f) (step_on s) b q rs'' qs'' r (j at s f)
 
@@ -157,10 +157,10 @@ takes_one s op.End reach e = never cc
 takes_one s External reach e = never cc
 
 module _ (rs qs src : List ℕ) (o : code.Pass1State) (h : Held rs qs src o) (st : Statement) (w : Counts st o) (o' : code.Pass1State) (q : o' ≡ counting o (o.counter + 1)) where
-  advances : Stepping rs qs src rs qs o (λ v. advanced 1 (span st.start st.end) v) (Went o')
-  advances = over_none rs qs src o h (λ v. advanced 1 (span st.start st.end) v) (Went o') (step-on o h.lent.steady 1 st.start st.end w.inside (λ z. omega arith) o' (o.counter + 1) q refl (omega (arith, w.room)))
+  advances : Stepping rs qs src rs qs o (λ v. advanced 1 (span st.start st.end) v) (Ok o')
+  advances = over_none rs qs src o h (λ v. advanced 1 (span st.start st.end) v) (Ok o') (step-on o h.lent.steady 1 st.start st.end w.inside (λ z. omega arith) o' (o.counter + 1) q refl (omega (arith, w.room)))
 
-  counts-on : (at : ℕ) (s : Stmt) → Faithful src at st s → Stepping rs qs src rs qs o (step_on s) (Went o')
+  counts-on : (at : ℕ) (s : Stmt) → Faithful src at st s → Stepping rs qs src rs qs o (step_on s) (Ok o')
   unfolding step_on
   counts-on at s f =
       let v = seen rs qs src o in
@@ -169,5 +169,5 @@ module _ (rs qs src : List ℕ) (o : code.Pass1State) (h : Held rs qs src o) (st
       let e : (directed s.op s v >>= λ b. advanced (word_len s.op s) s.place b) ≡ advanced 1 (span st.start st.end) v = rw (d, n, f.place) in
       record { rule = advances.rule ∙ sym e; kept = advances.kept }
 
-  pub step_counts : (at : ℕ) (s : Stmt) → Faithful src at st s → Stepping rs qs src rs qs o (step_one s) (Went o')
-  step_counts = step-bare rs qs src o st rs qs (Went o') w.bare counts-on
+  pub step_counts : (at : ℕ) (s : Stmt) → Faithful src at st s → Stepping rs qs src rs qs o (step_one s) (Ok o')
+  step_counts = step-bare rs qs src o st rs qs (Ok o') w.bare counts-on

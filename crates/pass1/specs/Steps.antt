@@ -1,4 +1,7 @@
 -- Pass one at a statement, as the rules' `step_one` has it, and over a whole source. Assumes nothing.
+use Rattle.base_refusals.specs.declared.Refusal.{Refusal}
+use Rattle.std.specs.declared.result.Result.{Result}
+use Rattle.std.specs.declared.result.Result.TheVariants.{Ok, Err}
 use Rattle.std.specs.Prelude.{◌≡◌, Bool, true, false, not, ◌&&◌, List, ℕ, eqb, ltb}
 use Rattle.rules.specs.Base.{Outcome, ok, ◌>>=◌}
 use Rattle.rules.specs.Statements.{Stmt, statements}
@@ -12,8 +15,6 @@ use Rattle.parse_meaning.specs.Reading.{Faithful}
 use Rattle.pass1_symbols.specs.Symbols.{symbols}
 use Rattle.pass1_relocations.specs.Pending.{notes}
 use Rattle.pass1_state.specs.declared.Pass1State as code
-use Rattle.pass1_state.specs.declared.Pass1Step.{Pass1Step}
-use Rattle.pass1_state.specs.declared.Pass1Step.TheVariants.{Went}
 use Rattle.pass1_state.specs.State.{told}
 use Rattle.pass1_fill.specs.Tables.{Held}
 
@@ -42,7 +43,7 @@ pub record Stands (src : List ℕ) (st : Statement) : Type 0 where
   pub faithful : Faithful src at st stmt
 
 -- what pass one says of a source whose statements are read, and the tables that it leaves; where it goes to the end, all statements are read
-pub record PassedOne (rs' qs' src : List ℕ) (r : Pass1Step) : Type 0 where
+pub record PassedOne (rs' qs' src : List ℕ) (r : Result code.Pass1State Refusal) : Type 0 where
   pub rule : (ss : List Stmt) → statements src ≡ ok ss → told (λ n. symbols n rs' src) (λ n. notes n qs' src) r ≡ pass_one ss pass1_start
-  pub kept : (o : code.Pass1State) → r ≡ Went o → Held rs' qs' src o
-  pub read : (o : code.Pass1State) → r ≡ Went o → AllRead src
+  pub kept : (o : code.Pass1State) → r ≡ Ok o → Held rs' qs' src o
+  pub read : (o : code.Pass1State) → r ≡ Ok o → AllRead src

@@ -11,9 +11,10 @@ ghost use Rattle.parse_meaning.specs.Reading.{Faithful};
 ghost use Rattle.pass1_fill.specs.Tables.{Held, Stepping};
 ghost use Rattle.pass1.specs.Steps.{one_word, only_counts, step_on, Stands, PassedOne};
 
-use parse::{NextStatement, Statement};
+use base_refusals::Refusal;
+use parse::Statement;
 use parse_rows::Op;
-use pass1_state::{Pass1State, Pass1Step};
+use pass1_state::Pass1State;
 
 // A statement after its labels: what it directs, then the counter's advance.
 fn step_on(
@@ -22,18 +23,13 @@ fn step_on(
     relocations: &mut [u32],
     st: Statement,
     o: Pass1State,
-) -> Pass1Step
+) -> Result<Pass1State, Refusal>
     requires { Held labels.old relocations.old src.now o × Stands src.now st }
     ensures { (at : ℕ) (s : Stmt) → Faithful src.now at st s → Stepping labels.old relocations.old src.now labels.new relocations.new o (step_on s) result }
 {
-    let answer = pass1_directive::direct(src, labels, relocations, st, o);
-    match answer {
-        Pass1Step::Went(next) => {
-            let size = parse_meaning::word_len(src, st);
-            pass1_state::shift(next, size, st.start, st.end)
-        }
-        Pass1Step::Refused(_) => answer,
-    }
+    let next = pass1_directive::direct(src, labels, relocations, st, o)?;
+    let size = parse_meaning::word_len(src, st);
+    pass1_state::shift(next, size, st.start, st.end)
 }
 
 // A statement that was looked for at a place, from its labels on.
@@ -44,15 +40,12 @@ fn step_labelled(
     at: usize,
     st: Statement,
     o: Pass1State,
-) -> Pass1Step
+) -> Result<Pass1State, Refusal>
     requires { Held labels.old relocations.old src.now o × Stands src.now st × Heads src.now at st.start }
     ensures { (s : Stmt) → Faithful src.now at st s → Stepping labels.old relocations.old src.now labels.new relocations.new o (step_one s) result }
 {
-    let answer = pass1_labels::define_labels(src, labels, at, o, st.start, st.end);
-    match answer {
-        Pass1Step::Went(next) => step_on(src, labels, relocations, st, next),
-        Pass1Step::Refused(_) => answer,
-    }
+    let next = pass1_labels::define_labels(src, labels, at, o, st.start, st.end)?;
+    step_on(src, labels, relocations, st, next)
 }
 
 // An instruction, or a .fill of a number.
@@ -88,7 +81,7 @@ fn step(
     at: usize,
     st: Statement,
     o: Pass1State,
-) -> Pass1Step
+) -> Result<Pass1State, Refusal>
     requires { Held labels.old relocations.old src.now o × Stands src.now st × Heads src.now at st.start }
     ensures { (s : Stmt) → Faithful src.now at st s → Stepping labels.old relocations.old src.now labels.new relocations.new o (step_one s) result }
 {
@@ -99,48 +92,35 @@ fn step(
 }
 
 // The end of the source: 22 at the .orig of a block that is open.
-fn finish(o: Pass1State) -> Pass1Step
+fn finish(o: Pass1State) -> Result<Pass1State, Refusal>
     requires { Steady o }
     ensures { Counting.Stepping o (λ x y. pass_one [] (view_pass1 x y o)) result }
 {
     if o.inside {
         return pass1_state::refused(base_refusals::UNCLOSED_ORIG, o.orig_start, o.orig_end);
     }
-    Pass1Step::Went(o)
+    Ok(o)
 }
 
 // Pass one of a source, into lent tables, whatever stood there.
-pub fn pass_one(src: &[u8], labels: &mut [u32], relocations: &mut [u32]) -> Pass1Step
+pub fn pass_one(
+    src: &[u8],
+    labels: &mut [u32],
+    relocations: &mut [u32],
+) -> Result<Pass1State, Refusal>
     requires { (length src.now ≤ 262144) × (6144 ≤ length labels.old) × (4096 ≤ length relocations.old) }
     ensures { PassedOne labels.new relocations.new src.now result }
 {
     let mut at = 0;
     let mut o = pass1_state::fresh();
-    loop {
-        match parse::next_statement(src, at) {
-            NextStatement::Read(st) => {
-                if only_counts(st, o) {
-                    o = pass1_state::counted(o, o.counter + 1);
-                    at = st.next;
-                    continue;
-                }
-                let answer = step(src, labels, relocations, at, st, o);
-                match answer {
-                    Pass1Step::Went(next) => {
-                        o = next;
-                        at = st.next;
-                    }
-                    Pass1Step::Refused(_) => {
-                        return answer;
-                    }
-                }
-            }
-            NextStatement::End => {
-                return finish(o);
-            }
-            NextStatement::Refused { number, start, end } => {
-                return pass1_state::refused(number, start, end);
-            }
+    // A while: each statement says where the next one begins.
+    while let Some(st) = parse::next_statement(src, at)? {
+        if only_counts(st, o) {
+            o = pass1_state::counted(o, o.counter + 1);
+        } else {
+            o = step(src, labels, relocations, at, st, o)?;
         }
+        at = st.next;
     }
+    finish(o)
 }

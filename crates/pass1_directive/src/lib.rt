@@ -12,17 +12,23 @@ ghost use Rattle.pass1_labels.specs.Tables as Names;
 ghost use Rattle.pass1_fill.specs.Tables.{Held, Stepping};
 ghost use Rattle.pass1_directive.specs.Sound.{Sound};
 
+use base_refusals::Refusal;
 use parse::Statement;
 use parse_rows::Op;
-use pass1_state::{Pass1State, Pass1Step};
+use pass1_state::Pass1State;
 
 // .external: its name, where it has one.
-fn external(src: &[u8], labels: &mut [u32], st: Statement, o: Pass1State) -> Pass1Step
+fn external(
+    src: &[u8],
+    labels: &mut [u32],
+    st: Statement,
+    o: Pass1State,
+) -> Result<Pass1State, Refusal>
     requires { Lent labels.old src.now o × Sound src.now st }
     ensures { (at : ℕ) (s : Stmt) → Faithful src.now at st s → Names.Stepping labels.old src.now labels.new o (λ v. directed external s v) result }
 {
     if st.reach == parse_field::NO_LABEL {
-        return Pass1Step::Went(o);
+        return Ok(o);
     }
     pass1_labels::add_external(
         src,
@@ -42,12 +48,12 @@ fn fill(
     relocations: &mut [u32],
     st: Statement,
     o: Pass1State,
-) -> Pass1Step
+) -> Result<Pass1State, Refusal>
     requires { Held labels.now relocations.old src.now o × Sound src.now st }
     ensures { (at : ℕ) (s : Stmt) → Faithful src.now at st s → Stepping labels.now relocations.old src.now labels.now relocations.new o (λ v. directed Words.fill s v) result }
 {
     if st.reach == parse_field::NO_LABEL {
-        return Pass1Step::Went(o);
+        return Ok(o);
     }
     pass1_fill::fill_label(
         src,
@@ -68,17 +74,16 @@ pub fn direct(
     relocations: &mut [u32],
     st: Statement,
     o: Pass1State,
-) -> Pass1Step
+) -> Result<Pass1State, Refusal>
     requires { Held labels.old relocations.old src.now o × Sound src.now st }
     ensures { (at : ℕ) (s : Stmt) → Faithful src.now at st s → Stepping labels.old relocations.old src.now labels.new relocations.new o (λ v. directed s.op s v) result }
 {
-    let op = st.op;
-    match op {
-        Op::Instr => Pass1Step::Went(o),
+    match st.op {
+        Op::Instr => Ok(o),
         Op::Orig => pass1_state::begin_block(o, st.bits, st.start, st.end),
         Op::Fill => fill(src, labels, relocations, st, o),
-        Op::Blkw => Pass1Step::Went(o),
-        Op::Stringz => Pass1Step::Went(o),
+        Op::Blkw => Ok(o),
+        Op::Stringz => Ok(o),
         Op::End => pass1_state::end_block(o, st.start, st.end),
         Op::External => external(src, labels, st, o),
     }

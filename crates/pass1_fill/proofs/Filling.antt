@@ -1,33 +1,29 @@
 -- What each way through `fill_label` shows. Assumes nothing.
+use Rattle.base_refusals.specs.declared.Refusal.{Refusal}
+use Rattle.std.specs.declared.result.Result.{Result}
+use Rattle.std.specs.declared.result.Result.TheVariants.{Ok, Err}
+use Rattle.std.specs.declared.option.Option as O
+use Rattle.std.specs.declared.option.Option.TheVariants.{Some, None}
 use mathlib.Core.Path.{◌≡◌, refl, sym, ◌∙◌, ap}
 use mathlib.Core.Bool.{Bool, true, false}
 use mathlib.Core.Option.{Option, none, some}
 use mathlib.Core.List.{List}
-use Prim.Native.Nat.{ℕ, zero, suc, ◌+◌, ◌-◌, ◌*◌, ◌≤◌}
+use Prim.Native.Nat.{ℕ, ◌-◌}
 use native.Mathlib.Omega.{arith}
-use lib.ListN.{length, get_or}
+use lib.ListN.{length}
 use Rattle.rules.specs.Base.{Outcome, ok, refuse, ◌>>=◌, Span, span}
 use Rattle.rules.specs.Tables.{look, name_order}
 use Rattle.rules.specs.Objects.{Lab, outer, defined}
-use Rattle.rules.specs.Objects as objects
 use Rattle.rules.specs.Words.{fill}
 use Rattle.rules.specs.Statements.{Name, Stmt, Target}
 use Rattle.rules.specs.Passes.{Symbol, Cursor, Pass1State, relocated, filled, directed}
-use Rattle.rules.specs.Buffers.{lab_from}
 use Rattle.rules.proofs.Bools.{never}
 use Rattle.base_refusals.specs.Refusals.{refusal_at}
 use Rattle.parse_labels.specs.Names.{name_from, name_between, Between}
-use Rattle.pass1_symbols.specs.Symbols.{symbols, Growing}
-use Rattle.pass1_symbols.specs.Adding.{Found, found}
-use Rattle.pass1_symbols.specs.declared.Row.{Row}
-use Rattle.pass1_symbols.specs.declared.Row.TheVariants.{At, Nothing}
-use Rattle.pass1_relocations.specs.Pending.{notes, Ready, Adding, outcome, noting}
-use Rattle.pass1_relocations.specs.declared.Noted.{Noted}
-use Rattle.pass1_relocations.specs.declared.Noted.TheVariants as noted
+use Rattle.pass1_symbols.specs.Symbols.{symbols}
+use Rattle.pass1_relocations.specs.Pending.{notes, Adding, outcome, noting}
 use Rattle.pass1_state.specs.declared.Pass1State as code
-use Rattle.pass1_state.specs.declared.Pass1Step.{Pass1Step}
-use Rattle.pass1_state.specs.declared.Pass1Step.TheVariants as stepped
-use Rattle.pass1_state.specs.State.{cursor, told, with_relocations}
+use Rattle.pass1_state.specs.State.{told, with_relocations}
 use Rattle.pass1_fill.specs.Tables.{step_of, outer_lab, is_outer, seen, Held, Stepping}
 
 -- THE RULE, case by case
@@ -95,51 +91,9 @@ module _ (m : Name) (p : Span) (v : Pass1State) where
       go none e = never cc
       go (some s) e = by s.lab e
 
--- AN ANSWER AS A STEP
-module _ (o : code.Pass1State) (a e : ℕ) (z : Noted) where
-  pub step-held : (m : ℕ) (o' : code.Pass1State) → z ≡ noted.Held m → o' ≡ with_relocations o m → stepped.Went o' ≡ step_of o a e z
-  step-held m o' q w = rw (q, w)
-
-  pub step-full : (r : Pass1Step) → z ≡ noted.Full → r ≡ stepped.Refused (refusal_at 40 a e) → r ≡ step_of o a e z
-  step-full r q w = rw (q, w)
-
--- AN EXTERNAL
-module _ (rs src : List ℕ) (n : ℕ) (m : objects.Name) (g : Growing rs src n) (r : Row) (h : Found n rs src m r) where
-  pub row-in : (k : ℕ) → r ≡ At k → k * 4 + 4 ≤ length rs
-  row-in k q = omega (arith, g.few, g.room, (h.row k q).0)
-
-  lab-plain : (a f : ℕ) → f ≡ 0 → outer_lab (lab_from a f) ≡ false
-  lab-plain a zero e = refl
-  lab-plain a (suc f) e = absurd (omega arith)
-
-  lab-outer : (a f : ℕ) → (f ≡ 0 → ⊥) → outer_lab (lab_from a f) ≡ true
-  lab-outer a zero e = absurd (e refl)
-  lab-outer a (suc f) e = refl
-
-  pub external-no : (k f : ℕ) → r ≡ At k → f ≡ get_or rs (k * 4 + 1) 0 → f ≡ 0 → false ≡ is_outer (look name_order (symbols n rs src) m)
-  external-no k f q w z = sym (lab-plain (get_or rs (k * 4) 0) (get_or rs (k * 4 + 1) 0) (sym w ∙ z)) ∙ (ap (λ (x : Row). is_outer (found rs src x)) (sym q) ∙ ap is_outer h.says)
-
-  pub external-yes : (k f : ℕ) → r ≡ At k → f ≡ get_or rs (k * 4 + 1) 0 → (f ≡ 0 → ⊥) → true ≡ is_outer (look name_order (symbols n rs src) m)
-  external-yes k f q w z = sym (lab-outer (get_or rs (k * 4) 0) (get_or rs (k * 4 + 1) 0) (λ y. z (w ∙ y))) ∙ (ap (λ (x : Row). is_outer (found rs src x)) (sym q) ∙ ap is_outer h.says)
-
-  pub external-none : r ≡ Nothing → false ≡ is_outer (look name_order (symbols n rs src) m)
-  external-none q = ap (λ (x : Row). is_outer (found rs src x)) (sym q) ∙ ap is_outer h.says
-
 -- A.FILL
 module _ (rs qs src : List ℕ) (o : code.Pass1State) (h : Held rs qs src o) (b e : ℕ) (w : Between src b e) where
-  pub first_small : b ≤ 262144
-  first_small = omega (arith, w.rising, w.within, h.lent.size)
-
-  pub size_small : e - b ≤ 262144
-  size_small = omega (arith, w.small)
-
   module _ (x y : ℕ) (i : x ≡ b) (j : y ≡ e - b) where
-    pub name_in_lem : x + y ≤ length src
-    name_in_lem = omega (arith, w.rising, w.within)
-
-    pub ready : Ready qs src o.relocations x y
-    ready = record { table = h.table; room = h.room; name = record { place = name_in_lem; small = omega (arith, w.small) } }
-
     module _ (f : Bool) (k : f ≡ is_outer (look name_order (symbols o.labels rs src) (name_from src x y))) (st en : ℕ) (s : Stmt) (t : Target) (aim : s.target ≡ some t) (name : t.name ≡ name_between src b e) (place : s.place ≡ span st en) where
       text : t.name.text ≡ name_from src x y
       text = rw (i, j) (ap (λ (m : Name). m.text) name)
@@ -150,7 +104,7 @@ module _ (rs qs src : List ℕ) (o : code.Pass1State) (h : Held rs qs src o) (b 
       abbrev Rule : Pass1State → Outcome Pass1State
       Rule v = directed fill s v
 
-      pub fill-plain : f ≡ false → Stepping rs qs src rs qs o Rule (stepped.Went o)
+      pub fill-plain : f ≡ false → Stepping rs qs src rs qs o Rule (Ok o)
       fill-plain q = record {
         rule = sym (fill-rule s t (seen rs qs src o) aim ∙ filled-plain t.name s.place (seen rs qs src o) (is ∙ q));
         kept = λ o' z. (let u : o ≡ o' = cc in rw u at h);
@@ -160,24 +114,24 @@ module _ (rs qs src : List ℕ) (o : code.Pass1State) (h : Held rs qs src o) (b 
         outside : Rule (seen rs qs src o) ≡ Noting t.name s.place (seen rs qs src o) (seen rs qs src o).cursor
         outside = fill-rule s t (seen rs qs src o) aim ∙ filled-outer t.name s.place (seen rs qs src o) (is ∙ q)
 
-        pub fill-21 : o.inside ≡ false → (r : Pass1Step) → r ≡ stepped.Refused (refusal_at 21 st en) → Stepping rs qs src rs qs o Rule r
+        pub fill-21 : o.inside ≡ false → (r : Result code.Pass1State Refusal) → r ≡ Err (refusal_at 21 st en) → Stepping rs qs src rs qs o Rule r
         fill-21 c r z = rw z (record {
           rule = sym (outside ∙ rw (c, place));
           kept = λ o' z. (never cc);
         })
 
-        pub fill-noted : o.inside ≡ true → (qs' : List ℕ) → length qs' ≡ length qs → (d : Noted) → Adding qs src qs' o.relocations o.counter x y d → (r : Pass1Step) → r ≡ step_of o st en d → Stepping rs qs src rs qs' o Rule r
+        pub fill-noted : o.inside ≡ true → (qs' : List ℕ) → length qs' ≡ length qs → (d : O.Option ℕ) → Adding qs src qs' o.relocations o.counter x y d → (r : Result code.Pass1State Refusal) → r ≡ step_of o st en d → Stepping rs qs src rs qs' o Rule r
         fill-noted c qs' l d a r z = rw z (record {
           rule = goes d ∙ (a.rule (span st en) (seen rs qs src o) refl ∙ sym (outside ∙ rw (c, place, text)));
           kept = keeps d refl;
         })
           where
-            goes : (d : Noted) → told (λ n. symbols n rs src) (λ n. notes n qs' src) (step_of o st en d) ≡ (outcome qs' src (span st en) d >>= noting (seen rs qs src o))
-            goes (noted.Held m) = refl
-            goes noted.Full = refl
+            goes : (d : O.Option ℕ) → told (λ n. symbols n rs src) (λ n. notes n qs' src) (step_of o st en d) ≡ (outcome qs' src (span st en) d >>= noting (seen rs qs src o))
+            goes (Some m) = refl
+            goes None = refl
 
-            keeps : (u : Noted) → d ≡ u → (o' : code.Pass1State) → step_of o st en u ≡ stepped.Went o' → Held rs qs' src o'
-            keeps (noted.Held m) g o' p =
+            keeps : (u : O.Option ℕ) → d ≡ u → (o' : code.Pass1State) → step_of o st en u ≡ Ok o' → Held rs qs' src o'
+            keeps (Some m) g o' p =
                 let v : with_relocations o m ≡ o' = cc in
                 let y : Held rs qs' src (with_relocations o m) = record {
                   lent = record { steady = record { rising = h.lent.steady.rising; address = h.lent.steady.address; few = h.lent.steady.few; sum = h.lent.steady.sum }; table = h.lent.table; size = h.lent.size };
@@ -185,4 +139,4 @@ module _ (rs qs src : List ℕ) (o : code.Pass1State) (h : Held rs qs src o) (b 
                   room = omega (arith, h.room, l);
                 } in
                 rw v at y
-            keeps noted.Full g o' p = never cc
+            keeps None g o' p = never cc

@@ -12,10 +12,8 @@ ghost use Rattle.parse_labels.specs.Names.{name_from, name_between, Between};
 ghost use Rattle.pass1_symbols.specs.Symbols.{symbols, Growing};
 ghost use Rattle.pass1_fill.specs.Tables.{step_of, is_outer, Held, Stepping};
 
-use base_casts::narrow;
-use pass1_relocations::Noted;
-use pass1_state::{Pass1State, Pass1Step};
-use pass1_symbols::Row;
+use base_refusals::Refusal;
+use pass1_state::Pass1State;
 
 // The external flag of row k.
 fn flag_of(rows: &[u32], k: usize) -> u32
@@ -27,12 +25,17 @@ fn flag_of(rows: &[u32], k: usize) -> u32
 }
 
 // What adding a relocation answers, as a step from a state.
-fn step_of(o: Pass1State, answer: Noted, start: usize, end: usize) -> Pass1Step
+fn step_of(
+    o: Pass1State,
+    answer: Option<usize>,
+    start: usize,
+    end: usize,
+) -> Result<Pass1State, Refusal>
     ensures { result ≡ step_of o start end answer }
 {
     match answer {
-        Noted::Held(n) => Pass1Step::Went(pass1_state::with_relocations(o, n)),
-        Noted::Full => pass1_state::refused(base_refusals::TABLE_FULL, start, end),
+        Some(n) => Ok(pass1_state::with_relocations(o, n)),
+        None => pass1_state::refused(base_refusals::TABLE_FULL, start, end),
     }
 }
 
@@ -42,14 +45,8 @@ fn is_external(src: &[u8], rows: &[u32], n: usize, first: u32, size: u32) -> boo
     ensures { result ≡ is_outer (look name_order (symbols n rows.now src.now) (name_from src.now first size)) }
 {
     match pass1_symbols::find_symbol(rows, src, n, first, size) {
-        Row::At(k) => {
-            let flag = flag_of(rows, k);
-            if flag == base_capacities::DEFINED {
-                return false;
-            }
-            true
-        }
-        Row::Nothing => false,
+        Some(k) => flag_of(rows, k) != base_capacities::DEFINED,
+        None => false,
     }
 }
 
@@ -63,12 +60,12 @@ pub fn fill_label(
     to: usize,
     start: usize,
     end: usize,
-) -> Pass1Step
+) -> Result<Pass1State, Refusal>
     requires { Held labels.now relocations.old src.now o × Between src.now from to }
     ensures { (s : Stmt) (t : Target) → s.target ≡ some t → t.name ≡ name_between src.now from to → s.place ≡ span start end → Stepping labels.now relocations.old src.now labels.now relocations.new o (λ v. directed fill s v) result }
 {
-    let first = narrow(from);
-    let size = narrow(to - from);
+    let first = from as u32;
+    let size = (to - from) as u32;
     let outside = is_external(src, labels, o.labels, first, size);
     if outside {
         if o.inside {
@@ -84,5 +81,5 @@ pub fn fill_label(
         }
         return pass1_state::refused(base_refusals::UNDET_ADDR_STMT, start, end);
     }
-    Pass1Step::Went(o)
+    Ok(o)
 }

@@ -1,11 +1,13 @@
 -- What each way through `add_label` and `add_labels` shows. Assumes nothing.
+use Rattle.std.specs.declared.result.Result.{Result}
+use Rattle.std.specs.declared.result.Result.TheVariants.{Ok, Err}
 use mathlib.Core.Path.{◌≡◌, refl, sym, ◌∙◌, ap}
 use mathlib.Core.Option.{Option, none, some}
 use mathlib.Core.List.{List, [], ◌∷◌}
-use Prim.Native.Nat.{ℕ, ◌+◌, ◌-◌, ◌*◌, ◌≤◌, ◌<◌}
+use Prim.Native.Nat.{ℕ, ◌+◌, ◌-◌, ◌≤◌, ◌<◌}
 use native.Mathlib.Omega.{arith}
-use lib.ListN.{length, get_or}
-use Rattle.rules.specs.Base.{Outcome, ok, refuse2, ◌>>=◌, Span, span}
+use lib.ListN.{length}
+use Rattle.rules.specs.Base.{Outcome, ok, ◌>>=◌, Span, span}
 use Rattle.rules.specs.Tables.{Table}
 use Rattle.rules.specs.Objects.{defined}
 use Rattle.rules.specs.Objects as objects
@@ -14,23 +16,21 @@ use Rattle.rules.specs.Passes.{Symbol, add_label, add_labels}
 use Rattle.rules.specs.Buffers.{lab_from}
 use Rattle.rules.proofs.Ahead.{label-in, names-on, names-done}
 use Rattle.rules.proofs.Bools.{never}
-use Rattle.base_refusals.specs.Refusals.{refusal, refusal_at}
+use Rattle.base_refusals.specs.Refusals.{refusal_at}
 use Rattle.base_refusals.specs.declared.Refusal.{Refusal}
 use Rattle.parse_labels.specs.Names.{name_from, name_between}
 use Rattle.parse_labels.specs.Walk.{label_from, labelled, Heads}
 use Rattle.parse_labels.specs.declared.NextLabel.{NextLabel}
 use Rattle.parse_labels.specs.declared.NextLabel.TheVariants.{Label, Done}
-use Rattle.pass1_symbols.specs.Symbols.{symbol_row, symbols}
+use Rattle.pass1_symbols.specs.Symbols.{symbols}
 use Rattle.pass1_symbols.specs.Adding.{named_at, outcome, Ready, Adding}
 use Rattle.pass1_symbols.specs.declared.Added.{Added}
 use Rattle.pass1_symbols.specs.declared.Added.TheVariants as added
-use Rattle.pass1_labels.specs.declared.LabelsAdded.{LabelsAdded}
-use Rattle.pass1_labels.specs.declared.LabelsAdded.TheVariants.{Held, Refused}
 use Rattle.pass1_labels.specs.Naming.{told, NamesReady, NameReady, NameAdded, NamesAdded}
 use Rattle.parse_labels.proofs.Texts.{name-stands}
 use Rattle.parse_labels.proofs.Before.{heads-on}
 
-refused-no : {A : Type 0} {f : Refusal} {m : ℕ} → Refused f ≡ Held m → A
+refused-no : {A : Type 0} {f : Refusal} {m : ℕ} → Err f ≡ Ok m → A
 refused-no q = never cc
 
 -- ONE NAME
@@ -52,26 +52,13 @@ module _ (rs src : List ℕ) (n a f b e : ℕ) (v : NameReady rs src n a f b e) 
       ruled : outcome rs src rs' s l (span st en) r ≡ add_label (lab_from a f) (span st en) (name_between src b e) (symbols n rs src)
       ruled = h.rule (span st en) ∙ ap (λ (m : Name). add_label (lab_from a f) (span st en) m (symbols n rs src)) name-same
 
-      pub name-held : (m : ℕ) → r ≡ added.Held m → NameAdded rs src rs' n a f b e (span st en) (Held m)
+      pub name-held : (m : ℕ) → r ≡ added.Held m → NameAdded rs src rs' n a f b e (span st en) (Ok m)
       name-held m q = record {
         rule = sym (ap (outcome rs src rs' s l (span st en)) q) ∙ ruled;
         table = λ k z. (let w : m ≡ k = cc in rw w at (h.table m q));
       }
 
-      pub clash-in : (k : ℕ) → r ≡ added.Clash k → k * 4 + 4 ≤ length rs'
-      clash-in k q = let w = h.clash k q in rw w.1 (omega (arith, w.0, v.table.few, v.table.room))
-
-      pub name-clash : (k : ℕ) → r ≡ added.Clash k → (z : LabelsAdded) → z ≡ Refused (refusal 25 (get_or rs' (k * 4 + 2) 0) (get_or rs' (k * 4 + 2) 0 + get_or rs' (k * 4 + 3) 0) b e) → NameAdded rs src rs' n a f b e (span st en) z
-      name-clash k q z u =
-          let w = (h.clash k q).1 in
-          let i : s + l ≡ e = omega (arith, v.rising) in
-          let g : refuse2 25 (symbol_row rs src k).1.place (span b e) ≡ outcome rs src rs' s l (span st en) (added.Clash k) = rw (i, x) in
-          rw (u, w) (record {
-            rule = g ∙ (sym (ap (outcome rs src rs' s l (span st en)) q) ∙ ruled);
-            table = λ m y. refused-no y;
-          })
-
-      pub name-full : r ≡ added.Full → NameAdded rs src rs' n a f b e (span st en) (Refused (refusal_at 40 st en))
+      pub name-full : r ≡ added.Full → NameAdded rs src rs' n a f b e (span st en) (Err (refusal_at 40 st en))
       name-full q = record {
         rule = sym (ap (outcome rs src rs' s l (span st en)) q) ∙ ruled;
         table = λ m y. refused-no y;
@@ -85,9 +72,6 @@ pub record Going (rs₀ src rs : List ℕ) (at n a : ℕ) (p : Span) (i held : �
   pub ready : NamesReady rs src held a
   pub long : length rs ≡ length rs₀
   pub heads : Heads src i p.start
-
-pub going_start : (rs src : List ℕ) (at n a : ℕ) (p : Span) → NamesReady rs src n a → Heads src at p.start → Going rs src rs at n a p at n
-going_start rs src at n a p v h = record { same = refl; ready = v; long = refl; heads = h }
 
 -- the label that is met
 pub record Met (s : List ℕ) (i b e j : ℕ) : Type 0 where
@@ -150,7 +134,7 @@ module _ (rs₀ src rs : List ℕ) (at n a : ℕ) (p : Span) (i held : ℕ) (g :
     pub going_less : length src - j < length src - i
     going_less = let u = it in let w = label-in src i _ u.named in omega (arith, u.onward, w.0, w.1)
 
-    module _ (rs' : List ℕ) (r : LabelsAdded) (k : NameAdded rs src rs' held a 0 b e p r) where
+    module _ (rs' : List ℕ) (r : Result ℕ Refusal) (k : NameAdded rs src rs' held a 0 b e p r) where
       rest : (told rs' src r >>= add_labels a p (labels_at src j)) ≡ add_labels a p (labels_at src at) (symbols n rs₀ src)
       rest =
           let u = it in
@@ -158,21 +142,21 @@ module _ (rs₀ src rs : List ℕ) (at n a : ℕ) (p : Span) (i held : ℕ) (g :
           ∙ (sym (one_more a p (name_between src b e) (labels_at src j) (symbols held rs src))
           ∙ (ap (λ (l : List Name). add_labels a p l (symbols held rs src)) (rw u.onward (sym (names-on src i (name_between src b e) u.named))) ∙ sym g.same))
 
-      pub going_on : (m : ℕ) → r ≡ Held m → length rs' ≡ length rs → Going rs₀ src rs' at n a p j m
+      pub going_on : (m : ℕ) → r ≡ Ok m → length rs' ≡ length rs → Going rs₀ src rs' at n a p j m
       going_on m z l = record {
-        same = sym (sym (ap (λ (y : LabelsAdded). told rs' src y >>= add_labels a p (labels_at src j)) z) ∙ rest);
+        same = sym (sym (ap (λ (y : Result ℕ Refusal). told rs' src y >>= add_labels a p (labels_at src j)) z) ∙ rest);
         ready = record { table = k.table m z; size = g.ready.size; address = g.ready.address };
         long = l ∙ g.long;
         heads = let u = it in rw u.onward (heads-on src i p.start (name_between src b e) u.named g.heads);
       }
 
-      pub going-refused : (f : Refusal) → r ≡ Refused f → NamesAdded rs₀ src rs' at n a p r
+      pub going-refused : (f : Refusal) → r ≡ Err f → NamesAdded rs₀ src rs' at n a p r
       going-refused f z = record {
-        rule = ap (told rs' src) z ∙ (sym (ap (λ (y : LabelsAdded). told rs' src y >>= add_labels a p (labels_at src j)) z) ∙ rest);
+        rule = ap (told rs' src) z ∙ (sym (ap (λ (y : Result ℕ Refusal). told rs' src y >>= add_labels a p (labels_at src j)) z) ∙ rest);
         table = k.table;
       }
 
-  pub going_done : x ≡ Done → NamesAdded rs₀ src rs at n a p (Held held)
+  pub going_done : x ≡ Done → NamesAdded rs₀ src rs at n a p (Ok held)
   going_done q = record {
     rule = sym (g.same ∙ (ap (λ (l : List Name). add_labels a p l (symbols held rs src)) (names-done src i (unmet src i x h q)) ∙ no_more a p (symbols held rs src)));
     table = λ m z. (let y : held ≡ m = cc in rw y at g.ready.table);

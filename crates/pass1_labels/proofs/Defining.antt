@@ -1,4 +1,7 @@
 -- What each way through `define_labels` and `add_external` shows. Assumes nothing.
+use Rattle.base_refusals.specs.declared.Refusal.{Refusal}
+use Rattle.std.specs.declared.result.Result.{Result}
+use Rattle.std.specs.declared.result.Result.TheVariants.{Ok, Err}
 use mathlib.Core.Path.{◌≡◌, refl, sym, ◌∙◌, ap}
 use mathlib.Core.Bool.{Bool, true, false}
 use mathlib.Core.Option.{Option, none, some}
@@ -14,18 +17,13 @@ use Rattle.rules.specs.Passes.{Symbol, Cursor, Pass1State, pass1_state, with_sym
 use Rattle.rules.proofs.Ahead.{names-on, names-done}
 use Rattle.rules.proofs.Bools.{never}
 use Rattle.base_refusals.specs.Refusals.{refusal_at}
-use Rattle.base_refusals.specs.declared.Refusal.{Refusal}
 use Rattle.parse_labels.specs.Names.{name_between}
 use Rattle.parse_labels.specs.Walk.{label_from}
 use Rattle.parse_labels.specs.declared.NextLabel.{NextLabel}
 use Rattle.parse_labels.specs.declared.NextLabel.TheVariants.{Label, Done}
 use Rattle.pass1_symbols.specs.Symbols.{symbols, Growing}
 use Rattle.pass1_state.specs.declared.Pass1State as code
-use Rattle.pass1_state.specs.declared.Pass1Step.{Pass1Step}
-use Rattle.pass1_state.specs.declared.Pass1Step.TheVariants as stepped
 use Rattle.pass1_state.specs.State.{cursor, cursor_of, view_pass1, told, Steady, with_labels}
-use Rattle.pass1_labels.specs.declared.LabelsAdded.{LabelsAdded}
-use Rattle.pass1_labels.specs.declared.LabelsAdded.TheVariants.{Held, Refused}
 use Rattle.pass1_labels.specs.Naming.{NameAdded, NamesReady, NamesAdded}
 use Rattle.pass1_labels.specs.Naming as naming
 use Rattle.pass1_labels.proofs.Adding.{met, unmet}
@@ -53,37 +51,26 @@ external-rule s t v e = go s.target e
     go none q = never cc
     go (some u) q = let w : u ≡ t = cc in rw w
 
--- AN ANSWER AS A STEP
-module _ (o : code.Pass1State) (z : LabelsAdded) where
-  pub step-held : (m : ℕ) (o' : code.Pass1State) → z ≡ Held m → o' ≡ with_labels o m → stepped.Went o' ≡ step_of o z
-  step-held m o' q e = rw (q, e)
-
-  pub step-refused : (f : Refusal) → z ≡ Refused f → stepped.Refused f ≡ step_of o z
-  step-refused f q = rw q
-
 module _ (rs src : List ℕ) (o : code.Pass1State) (h : Lent rs src o) where
-  pub names-ready : NamesReady rs src o.labels o.counter
-  names-ready = record { table = h.table; size = h.size; address = h.steady.address }
-
   -- names added to the symbols of a state
-  module _ (rs' : List ℕ) (z : LabelsAdded) (g : (m : ℕ) → z ≡ Held m → Growing rs' src m) where
-    went_on : (y : ℕ → Table ℕ objects.Name) (u : LabelsAdded) → told (λ n. symbols n rs' src) y (step_of o u) ≡ (naming.told rs' src u >>= λ ss. ok (pass1_state (cursor_of o.inside (cursor o.start o.counter (span o.orig_start o.orig_end))) ss (y o.relocations) o.blocks o.words))
-    went_on y (Held m) = refl
-    went_on y (Refused f) = refl
+  module _ (rs' : List ℕ) (z : Result ℕ Refusal) (g : (m : ℕ) → z ≡ Ok m → Growing rs' src m) where
+    went_on : (y : ℕ → Table ℕ objects.Name) (u : Result ℕ Refusal) → told (λ n. symbols n rs' src) y (step_of o u) ≡ (naming.told rs' src u >>= λ ss. ok (pass1_state (cursor_of o.inside (cursor o.start o.counter (span o.orig_start o.orig_end))) ss (y o.relocations) o.blocks o.words))
+    went_on y (Ok m) = refl
+    went_on y (Err f) = refl
 
     steady-with : (m : ℕ) → Steady (with_labels o m)
     steady-with m = record { rising = h.steady.rising; address = h.steady.address; few = h.steady.few; sum = h.steady.sum }
 
-    kept_by : (u : LabelsAdded) → z ≡ u → (o' : code.Pass1State) → step_of o u ≡ stepped.Went o' → Kept rs' src o o'
-    kept_by (Held m) q o' e =
+    kept_by : (u : Result ℕ Refusal) → z ≡ u → (o' : code.Pass1State) → step_of o u ≡ Ok o' → Kept rs' src o o'
+    kept_by (Ok m) q o' e =
         let w : with_labels o m ≡ o' = cc in
         let v : Kept rs' src o (with_labels o m) = record { lent = record { steady = steady-with m; table = g m q; size = h.size }; relocations = refl } in
         rw w at v
-    kept_by (Refused f) q o' e = never cc
+    kept_by (Err f) q o' e = never cc
 
   -- AN EXTERNAL
   module _ (b e st en : ℕ) where
-    pub define-external : (rs' : List ℕ) (z : LabelsAdded) → NameAdded rs src rs' o.labels 0 1 b e (span st en) z → (r : Pass1Step) → r ≡ step_of o z → (s : Stmt) (t : Target) → s.target ≡ some t → t.name ≡ name_between src b e → s.place ≡ span st en → Stepping rs src rs' o (λ v. directed external s v) r
+    pub define-external : (rs' : List ℕ) (z : Result ℕ Refusal) → NameAdded rs src rs' o.labels 0 1 b e (span st en) z → (r : Result code.Pass1State Refusal) → r ≡ step_of o z → (s : Stmt) (t : Target) → s.target ≡ some t → t.name ≡ name_between src b e → s.place ≡ span st en → Stepping rs src rs' o (λ v. directed external s v) r
     define-external rs' z k r q s t f n p = rw q (record {
       rule = λ y. went_on rs' z k.table y z
           ∙ (ap (λ (u : Outcome (Table objects.Name Symbol)). u >>= λ ss. ok (pass1_state (cursor_of o.inside (cursor o.start o.counter (span o.orig_start o.orig_end))) ss (y o.relocations) o.blocks o.words)) (rw (← n, ← p) at k.rule)
@@ -96,11 +83,11 @@ module _ (rs src : List ℕ) (o : code.Pass1State) (h : Lent rs src o) where
     Rule v = labelled (labels_at src at) (span st en) v
 
     -- IN A BLOCK
-    module _ (i : o.inside ≡ true) (rs' : List ℕ) (z : LabelsAdded) (k : NamesAdded rs src rs' at o.labels o.counter (span st en) z) where
+    module _ (i : o.inside ≡ true) (rs' : List ℕ) (z : Result ℕ Refusal) (k : NamesAdded rs src rs' at o.labels o.counter (span st en) z) where
       viewed : (y : ℕ → Table ℕ objects.Name) → Rule (view_pass1 (λ n. symbols n rs src) y o) ≡ Rule (pass1_state (some (cursor o.start o.counter (span o.orig_start o.orig_end))) (symbols o.labels rs src) (y o.relocations) o.blocks o.words)
       viewed y = rw i
 
-      pub define-inside : (r : Pass1Step) → r ≡ step_of o z → Stepping rs src rs' o Rule r
+      pub define-inside : (r : Result code.Pass1State Refusal) → r ≡ step_of o z → Stepping rs src rs' o Rule r
       define-inside r q = rw q (record {
         rule = λ y. went_on rs' z k.table y z ∙ ap (λ (t : Bool). naming.told rs' src z >>= λ ss. ok (pass1_state (cursor_of t (cursor o.start o.counter (span o.orig_start o.orig_end))) ss (y o.relocations) o.blocks o.words)) i
             ∙ (ap (λ (t : Outcome (Table objects.Name Symbol)). t >>= λ ss. ok (pass1_state (some (cursor o.start o.counter (span o.orig_start o.orig_end))) ss (y o.relocations) o.blocks o.words)) k.rule
@@ -110,7 +97,7 @@ module _ (rs src : List ℕ) (o : code.Pass1State) (h : Lent rs src o) where
 
     -- OUTSIDE
     module _ (i : o.inside ≡ false) (x : NextLabel) (f : x ≡ label_from src at) where
-      pub define-outside : (b e j : ℕ) → x ≡ Label b e j → (r : Pass1Step) → r ≡ stepped.Refused (refusal_at 20 b e) → Stepping rs src rs o Rule r
+      pub define-outside : (b e j : ℕ) → x ≡ Label b e j → (r : Result code.Pass1State Refusal) → r ≡ Err (refusal_at 20 b e) → Stepping rs src rs o Rule r
       define-outside b e j q r u =
           let m = met src at x b e j f q in
           let n = names-on src at (name_between src b e) m.named in
@@ -119,7 +106,7 @@ module _ (rs src : List ℕ) (o : code.Pass1State) (h : Lent rs src o) where
             kept = λ o' z. (never cc);
           })
 
-      pub define-none : x ≡ Done → Stepping rs src rs o Rule (stepped.Went o)
+      pub define-none : x ≡ Done → Stepping rs src rs o Rule (Ok o)
       define-none q = record {
         rule = λ y. sym (ap (λ (ls : List Name). labelled ls (span st en) (view_pass1 (λ k. symbols k rs src) y o)) (names-done src at (unmet src at x f q)) ∙ labelled-none (span st en) _);
         kept = λ o' z. (let w : o ≡ o' = cc in record { lent = rw w at h; relocations = ap (λ (u : code.Pass1State). u.relocations) (sym w) });

@@ -1,4 +1,7 @@
 -- Names are added as the rules' `add_label` and `add_labels` add them. Assumes nothing.
+use Rattle.base_refusals.specs.declared.Refusal.{Refusal}
+use Rattle.std.specs.declared.result.Result.{Result}
+use Rattle.std.specs.declared.result.Result.TheVariants.{Ok, Err}
 use Rattle.std.specs.Prelude.{◌≡◌, List, ℕ, ◌-◌, ◌≤◌, ◌<◌, length}
 use Rattle.rules.specs.Base.{Outcome, ok, Span}
 use Rattle.rules.specs.Tables.{Table}
@@ -9,13 +12,11 @@ use Rattle.rules.specs.Buffers.{lab_from}
 use Rattle.base_refusals.specs.Refusals.{refused_by}
 use Rattle.parse_labels.specs.Names.{name_between}
 use Rattle.pass1_symbols.specs.Symbols.{symbols, Cells, Growing}
-use Rattle.pass1_labels.specs.declared.LabelsAdded.{LabelsAdded}
-use Rattle.pass1_labels.specs.declared.LabelsAdded.TheVariants.{Held, Refused}
 
 -- what an answer stands for, with the rows afterwards
-abbrev pub told : (rs' src : List ℕ) → LabelsAdded → Outcome (Table Name Symbol)
-told rs' src (Held m) = ok (symbols m rs' src)
-told rs' src (Refused f) = refused_by f
+abbrev pub told : (rs' src : List ℕ) → Result ℕ Refusal → Outcome (Table Name Symbol)
+told rs' src (Ok m) = ok (symbols m rs' src)
+told rs' src (Err f) = refused_by f
 
 -- a table over a source that fits
 pub record NamesReady (rs src : List ℕ) (n a : ℕ) : Type 0 where
@@ -30,10 +31,10 @@ pub record NameReady (rs src : List ℕ) (n a f b e : ℕ) : Type 0 where
   pub rising : b ≤ e
   pub row : Cells src a f b (e - b)
 
-pub record NameAdded (rs src rs' : List ℕ) (n a f b e : ℕ) (p : Span) (r : LabelsAdded) : Type 0 where
+pub record NameAdded (rs src rs' : List ℕ) (n a f b e : ℕ) (p : Span) (r : Result ℕ Refusal) : Type 0 where
   pub rule : told rs' src r ≡ add_label (lab_from a f) p (name_between src b e) (symbols n rs src)
-  pub table : (m : ℕ) → r ≡ Held m → Growing rs' src m
+  pub table : (m : ℕ) → r ≡ Ok m → Growing rs' src m
 
-pub record NamesAdded (rs src rs' : List ℕ) (at n a : ℕ) (p : Span) (r : LabelsAdded) : Type 0 where
+pub record NamesAdded (rs src rs' : List ℕ) (at n a : ℕ) (p : Span) (r : Result ℕ Refusal) : Type 0 where
   pub rule : told rs' src r ≡ add_labels a p (labels_at src at) (symbols n rs src)
-  pub table : (m : ℕ) → r ≡ Held m → Growing rs' src m
+  pub table : (m : ℕ) → r ≡ Ok m → Growing rs' src m

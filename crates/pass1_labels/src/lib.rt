@@ -1,7 +1,7 @@
 // Pass one at names: they go into the symbol table, the labels before a statement at the counter, that of an .external at 0.
 #![tactic(auto)]
 
-ghost use Rattle.std.specs.Prelude.{◌≡◌, ◌+◌, ◌*◌, ◌≤◌, length, get_or};
+ghost use Rattle.std.specs.Prelude.{◌≡◌, ◌+◌, ◌*◌, ◌≤◌, length, get_or, Err};
 ghost use Rattle.std.proofs.Math.Option.{some};
 ghost use Rattle.rules.specs.Base.{span};
 ghost use Rattle.rules.specs.Words.{external};
@@ -14,18 +14,10 @@ ghost use Rattle.parse_labels.specs.Walk.{Heads};
 ghost use Rattle.pass1_labels.specs.Tables.{step_of, Lent, Stepping};
 
 use base_capacities::{DEFINED, EXTERNAL};
-use base_casts::{narrow, wide};
 use base_refusals::Refusal;
 use parse_labels::NextLabel;
-use pass1_state::{Pass1State, Pass1Step};
+use pass1_state::Pass1State;
 use pass1_symbols::Added;
-
-// The table has so many rows, with what was added; or the refusal with its number and both spans.
-#[derive(Clone, Copy)]
-pub enum LabelsAdded {
-    Held(usize),
-    Refused(Refusal),
-}
 
 // A cell of row k.
 fn cell(rows: &[u32], k: usize, j: usize) -> u32
@@ -37,13 +29,13 @@ fn cell(rows: &[u32], k: usize, j: usize) -> u32
 }
 
 // 25: the name of row k, and the one at another address.
-fn clash(rows: &[u32], k: usize, from: usize, to: usize) -> LabelsAdded
+fn clash(rows: &[u32], k: usize, from: usize, to: usize) -> Result<usize, Refusal>
     requires { k * 4 + 4 ≤ length rows.now }
-    ensures { result ≡ LabelsAdded.Refused (refusal 25 (get_or rows.now (k * 4 + 2) 0) (get_or rows.now (k * 4 + 2) 0 + get_or rows.now (k * 4 + 3) 0) from to) }
+    ensures { result ≡ Err (refusal 25 (get_or rows.now (k * 4 + 2) 0) (get_or rows.now (k * 4 + 2) 0 + get_or rows.now (k * 4 + 3) 0) from to) }
 {
-    let start = wide(cell(rows, k, base_capacities::NAME_START));
-    let size = wide(cell(rows, k, base_capacities::NAME_LENGTH));
-    LabelsAdded::Refused(Refusal {
+    let start = cell(rows, k, base_capacities::NAME_START) as usize;
+    let size = cell(rows, k, base_capacities::NAME_LENGTH) as usize;
+    Err(Refusal {
         number: base_refusals::OVERLAPPING_LABELS,
         start,
         end: start + size,
@@ -52,7 +44,7 @@ fn clash(rows: &[u32], k: usize, from: usize, to: usize) -> LabelsAdded
     })
 }
 
-// The name between two places of the source, at an address, for a statement from `start` up to `end`; the flag is 1 of an external.
+// The rows of the table with the name between two places of the source, at an address, for a statement from `start` up to `end`; the flag is 1 of an external.
 pub fn add_label(
     src: &[u8],
     rows: &mut [u32],
@@ -63,16 +55,16 @@ pub fn add_label(
     to: usize,
     start: usize,
     end: usize,
-) -> LabelsAdded
+) -> Result<usize, Refusal>
     requires { NameReady rows.old src.now n address flag from to }
     ensures { NameAdded rows.old src.now rows.new n address flag from to (span start end) result }
 {
-    let first = narrow(from);
-    let size = narrow(to - from);
+    let first = from as u32;
+    let size = (to - from) as u32;
     match pass1_symbols::add_symbol(rows, src, n, address, flag, first, size) {
-        Added::Held(m) => LabelsAdded::Held(m),
+        Added::Held(m) => Ok(m),
         Added::Clash(k) => clash(rows, k, from, to),
-        Added::Full => LabelsAdded::Refused(Refusal {
+        Added::Full => Err(Refusal {
             number: base_refusals::TABLE_FULL,
             start,
             end,
@@ -91,12 +83,13 @@ pub fn add_labels(
     address: u32,
     start: usize,
     end: usize,
-) -> LabelsAdded
+) -> Result<usize, Refusal>
     requires { NamesReady rows.old src.now n address × Heads src.now at start }
     ensures { NamesAdded rows.old src.now rows.new at n address (span start end) result }
 {
     let mut i = at;
     let mut held = n;
+    // A loop: until no label is left.
     loop {
         match parse_labels::label_before(src, i, start) {
             NextLabel::Label {
@@ -104,31 +97,23 @@ pub fn add_labels(
                 end: to,
                 next,
             } => {
-                let answer = add_label(src, rows, held, address, DEFINED, from, to, start, end);
-                match answer {
-                    LabelsAdded::Held(m) => {
-                        held = m;
-                        i = next;
-                    }
-                    LabelsAdded::Refused(_) => {
-                        return answer;
-                    }
-                }
+                held = add_label(src, rows, held, address, DEFINED, from, to, start, end)?;
+                i = next;
             }
             NextLabel::Done => {
-                return LabelsAdded::Held(held);
+                return Ok(held);
             }
         }
     }
 }
 
 // What adding names answers, as a step from a state.
-pub fn step_of(o: Pass1State, answer: LabelsAdded) -> Pass1Step
+pub fn step_of(o: Pass1State, answer: Result<usize, Refusal>) -> Result<Pass1State, Refusal>
     ensures { result ≡ step_of o answer }
 {
     match answer {
-        LabelsAdded::Held(n) => Pass1Step::Went(pass1_state::with_labels(o, n)),
-        LabelsAdded::Refused(refusal) => Pass1Step::Refused(refusal),
+        Ok(n) => Ok(pass1_state::with_labels(o, n)),
+        Err(refusal) => Err(refusal),
     }
 }
 
@@ -140,7 +125,7 @@ pub fn define_labels(
     o: Pass1State,
     start: usize,
     end: usize,
-) -> Pass1Step
+) -> Result<Pass1State, Refusal>
     requires { Lent rows.old src.now o × Heads src.now at start }
     ensures { Stepping rows.old src.now rows.new o (λ v. labelled (labels_at src.now at) (span start end) v) result }
 {
@@ -156,7 +141,7 @@ pub fn define_labels(
             end: to,
             next: _,
         } => pass1_state::refused(base_refusals::UNDET_ADDR_LABEL, from, to),
-        NextLabel::Done => Pass1Step::Went(o),
+        NextLabel::Done => Ok(o),
     }
 }
 
@@ -169,7 +154,7 @@ pub fn add_external(
     to: usize,
     start: usize,
     end: usize,
-) -> Pass1Step
+) -> Result<Pass1State, Refusal>
     requires { Lent rows.old src.now o × Between src.now from to }
     ensures { (s : Stmt) (t : Target) → s.target ≡ some t → t.name ≡ name_between src.now from to → s.place ≡ span start end → Stepping rows.old src.now rows.new o (λ v. directed external s v) result }
 {

@@ -3,11 +3,11 @@ use mathlib.Core.Path.{◌≡◌}
 use mathlib.Core.List.{List}
 use Prim.Native.Nat.{ℕ, ◌+◌, ◌-◌, ◌*◌, ◌/◌, ◌≤◌, ◌<◌}
 use native.Mathlib.Omega.{arith}
-use lib.ListN.{length, get_or}
+use lib.ListN.{get_or}
 use Rattle.rules.specs.Tables.{nat_order}
 use Rattle.rules.proofs.Rows.{up_lt}
-use Rattle.rules.proofs.Halving.{Halved, Sides, halved-start, halved-up, halved-down}
-use Rattle.pass1_relocations.specs.Pending.{note_row, Pending, Bound}
+use Rattle.rules.proofs.Halving.{Halved, Sides, halved-up, halved-down}
+use Rattle.pass1_relocations.specs.Pending.{note_row, Pending}
 
 -- the rows below lo are below the address, and those from hi on are not
 pub record Between (rs : List ℕ) (n a lo hi : ℕ) : Type 0 where
@@ -36,18 +36,9 @@ module _ (rs : List ℕ) (n a : ℕ) where
     up = λ k m l h b. (let q = up_lt nat_order n (note_row rs src) v.up k m l h in omega (arith, q, b));
   }
 
-pub between_none : {rs : List ℕ} {n a : ℕ} → Between rs n a 0 n
-between_none {rs} {n} {a} = halving rs n a (halved-start (Less' rs n a) (More' rs n a))
-
-pub middle-in : {rs src : List ℕ} {n a lo hi : ℕ} → Pending rs src n → Between rs n a lo hi → lo < hi → (lo + (hi - lo) / 2) * 4 + 4 ≤ length rs
-middle-in v t l = omega (arith, v.room, t.within)
-
 module _ {rs src : List ℕ} {n a lo hi b : ℕ} (v : Pending rs src n) (t : Between rs n a lo hi) (l : lo < hi) (e : b ≡ get_or rs ((lo + (hi - lo) / 2) * 4) 0) where
   pub between-up : b < a → Between rs n a (lo + (hi - lo) / 2 + 1) hi
   between-up h = halving rs n a (halved-up _ _ (sides rs n a v) (halved rs n a t) l (omega (arith, e, h)))
 
   pub between-down : a ≤ b → Between rs n a lo (lo + (hi - lo) / 2)
   between-down h = halving rs n a (halved-down _ _ (sides rs n a v) (halved rs n a t) l (omega (arith, e, h)))
-
-pub between-met : {rs : List ℕ} {n a lo hi : ℕ} → Between rs n a lo hi → hi ≤ lo → Bound rs n a lo
-between-met t l = record { within = omega (arith, t.order, t.within); below = t.below; above = λ k h m. t.above k (omega arith) m }

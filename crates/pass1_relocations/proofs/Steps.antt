@@ -1,9 +1,10 @@
 -- What each way through `add_relocation` shows. Assumes nothing.
+use Rattle.std.specs.declared.option.Option.TheVariants.{Some, None}
 use mathlib.Core.Path.{◌≡◌, refl, sym, ◌∙◌, ap}
 use mathlib.Core.Bool.{Bool, true, false, ◌||◌}
 use mathlib.Core.Option.{Option, some}
 use mathlib.Core.List.{List, [], ◌∷◌}
-use Prim.Native.Nat.{ℕ, zero, suc, ◌+◌, ◌-◌, ◌*◌, ◌≤◌, ◌<◌, suc-le-suc, zero-le}
+use Prim.Native.Nat.{ℕ, zero, suc, ◌+◌, ◌*◌, ◌≤◌, ◌<◌, suc-le-suc, zero-le}
 use native.Mathlib.Nat.{not-suc-le-zero, le_of_suc-le-suc}
 use native.Mathlib.Decide.{dec_lt, ℕ_discrete}
 use native.Mathlib.Omega.{arith}
@@ -20,22 +21,10 @@ use Rattle.rules.proofs.Tables.{sorted_insert}
 use Rattle.rules.proofs.Rows.{length-tab, tab-ext, look-tab, look_none, sorted-tab, tab-sorted, up_lt}
 use Rattle.rules.proofs.Bools.{never}
 use Rattle.parse_labels.specs.Names.{name_from}
-use Rattle.object.specs.Decides.{Decides, decides_yes, decides_no}
+use Rattle.object.specs.Decides.{Decides}
 use Rattle.base_rows.specs.Opened.{inserted}
 use Rattle.base_rows.proofs.Sorted.{Belongs, table-new, table_up, rows-kept}
 use Rattle.pass1_relocations.specs.Pending.{note, note_row, notes, Within, Pending, Bound, AtAddress, Ready, Adding, noting}
-use Rattle.pass1_relocations.specs.declared.Noted.TheVariants.{Held, Full}
-
--- THE ROW AT THE ADDRESS
-module _ {rs : List ℕ} {n k a : ℕ} where
-  pub at_row : {b : ℕ} → k < n → b ≡ get_or rs (k * 4) 0 → b ≡ a → Decides (AtAddress rs n k a) true
-  at_row l e q = decides_yes (record { row = l; same = sym e ∙ q })
-
-  pub at_other : {b : ℕ} → b ≡ get_or rs (k * 4) 0 → (b ≡ a → ⊥) → Decides (AtAddress rs n k a) false
-  at_other e q = decides_no (λ v. q (e ∙ v.same))
-
-  pub at_none : n ≤ k → Decides (AtAddress rs n k a) false
-  at_none l = decides_no (λ v. (let m = v.row in omega arith))
 
 -- A TABLE WITH A VALUE CHANGED
 
@@ -115,11 +104,11 @@ goes a m q o t x y r e f =
     last true = refl
     last false = refl
 
-full-no : {A : Type 0} {m : ℕ} → Full ≡ Held m → A
+full-no : {A : Type 0} {m : ℕ} → None ≡ Some m → A
 full-no e = never cc
 
 -- NO ROW LEFT
-pub add-full : {rs src : List ℕ} {n a s l p : ℕ} {t : Bool} → Ready rs src n s l → Bound rs n a p → Decides (AtAddress rs n p a) t → t ≡ false → 1024 ≤ n → Adding rs src rs n a s l Full
+pub add-full : {rs src : List ℕ} {n a s l p : ℕ} {t : Bool} → Ready rs src n s l → Bound rs n a p → Decides (AtAddress rs n p a) t → t ≡ false → 1024 ≤ n → Adding rs src rs n a s l None
 unfolding when◌then◌else◌
 add-full {rs} {src} {n} {a} {s} {l} {p} v b d e h = record {
   rule = λ q o r. sym (goes a (name_from src s l) q o (notes n rs src) false false r (is-new n rs src p a b v.table (d.no e)) (ap (λ (m : ℕ). ltb m 1024) (count n rs src) ∙ le-ltb n 1024 h));
@@ -140,7 +129,7 @@ module _ {rs src rs' : List ℕ} {n a s l p : ℕ} {t : Bool} (v : Ready rs src 
       strict : {x y : ℕ} → x ≤ y → (x ≡ y → ⊥) → x < y
       strict {x} {y} q r = elim (dec_lt x y) [ yes w ↦ w | no w ↦ absurd (r (omega arith)) ]
 
-  pub add-new : Adding rs src rs' n a s l (Held (n + 1))
+  pub add-new : Adding rs src rs' n a s l (Some (n + 1))
   unfolding when◌then◌else◌ notes
   add-new = record {
     rule = λ q o r. sym (goes a (name_from src s l) q o (notes n rs src) false true r (is-new n rs src p a b v.table (d.no e)) (ap (λ (m : ℕ). ltb m 1024) (count n rs src) ∙ lt-ltb n 1024 h)
@@ -216,7 +205,7 @@ module _ {rs src : List ℕ} {n a s l p : ℕ} {t : Bool} (v : Ready rs src n s 
   pub taken_in : p * 4 + 4 ≤ length rs
   taken_in = omega (arith, v.table.room, (d.yes h).row)
 
-  pub add-renamed : {rs' : List ℕ} → rs' ≡ set (set rs (p * 4 + 2) s) (p * 4 + 3) l → Adding rs src rs' n a s l (Held n)
+  pub add-renamed : {rs' : List ℕ} → rs' ≡ set (set rs (p * 4 + 2) s) (p * 4 + 3) l → Adding rs src rs' n a s l (Some n)
   unfolding when◌then◌else◌ notes
   add-renamed {rs'} e = record {
     rule = λ q o r. sym (goes a (name_from src s l) q o (notes n rs src) true (ltb (length (notes n rs src)) 1024) r (is-there n rs src p a v.table (d.yes h)) refl

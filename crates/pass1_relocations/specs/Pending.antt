@@ -1,4 +1,6 @@
 -- The relocations that stand in rows of address, 0, and the name's start and length in the source. Assumes nothing.
+use Rattle.std.specs.declared.option.Option as O
+use Rattle.std.specs.declared.option.Option.TheVariants.{Some, None}
 use Rattle.std.specs.Prelude.{◌≡◌, List, ℕ, ◌+◌, ◌*◌, ◌≤◌, ◌<◌, length, get_or}
 use Rattle.rules.specs.Base.{Outcome, ok, refuse, ◌>>=◌, Span}
 use Rattle.rules.specs.Tables.{Table, nat_order}
@@ -6,8 +8,6 @@ use Rattle.rules.specs.Objects.{Name}
 use Rattle.rules.specs.Passes.{Pass1State, with_relocs, relocated}
 use Rattle.rules.specs.Buffers.{tab, Up}
 use Rattle.parse_labels.specs.Names.{name_from}
-use Rattle.pass1_relocations.specs.declared.Noted.{Noted}
-use Rattle.pass1_relocations.specs.declared.Noted.TheVariants.{Held, Full}
 
 abbrev pub note : List ℕ → (address zero start size : ℕ) → ℕ × Name
 note src a z s l = (a, name_from src s l)
@@ -47,15 +47,15 @@ pub record AtAddress (rs : List ℕ) (n k a : ℕ) : Type 0 where
   pub row : k < n
   pub same : get_or rs (k * 4) 0 ≡ a
 
-abbrev pub outcome : List ℕ → List ℕ → Span → Noted → Outcome (Table ℕ Name)
-outcome rs' src p (Held m) = ok (notes m rs' src)
-outcome rs' src p Full = refuse 40 p
+abbrev pub outcome : List ℕ → List ℕ → Span → O.Option ℕ → Outcome (Table ℕ Name)
+outcome rs' src p (Some m) = ok (notes m rs' src)
+outcome rs' src p None = refuse 40 p
 
 -- the state of pass one, with these relocations
 abbrev pub noting : Pass1State → Table ℕ Name → Outcome Pass1State
 noting o t = ok (with_relocs t o)
 
 -- in every state that has these relocations, a statement at p adds one as the rule has it
-pub record Adding (rs src rs' : List ℕ) (n a s l : ℕ) (r : Noted) : Type 0 where
+pub record Adding (rs src rs' : List ℕ) (n a s l : ℕ) (r : O.Option ℕ) : Type 0 where
   pub rule : (p : Span) (o : Pass1State) → o.relocs ≡ notes n rs src → (outcome rs' src p r >>= noting o) ≡ relocated a (name_from src s l) p o
-  pub table : (m : ℕ) → r ≡ Held m → Pending rs' src m
+  pub table : (m : ℕ) → r ≡ Some m → Pending rs' src m

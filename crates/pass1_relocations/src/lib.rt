@@ -8,16 +8,6 @@ ghost use Rattle.object_layout_labels.specs.Laying.{Blank};
 ghost use Rattle.pass1_relocations.specs.Pending.{note_row, notes, Pending, Bound, AtAddress, Ready, Adding};
 ghost use Rattle.pass1_relocations.specs.Resolved.{labels_of, Resolved};
 
-use base_casts::narrow;
-use pass1_symbols::Row;
-
-// What becomes of a relocation: the table has so many rows, with it; or no row is left.
-#[derive(Clone, Copy)]
-pub enum Noted {
-    Held(usize),
-    Full,
-}
-
 // The address of row k.
 fn address_of(rows: &[u32], k: usize) -> u32
     requires { k * 4 + 4 ≤ length rows.now }
@@ -34,10 +24,10 @@ fn row_from(rows: &[u32], src: &[u8], n: usize, address: u32) -> usize
 {
     let mut lo = 0;
     let mut hi = n;
+    // A while: each turn halves what is left.
     while lo < hi {
         let mid = lo + (hi - lo) / 2;
-        let held = address_of(rows, mid);
-        if held < address {
+        if address_of(rows, mid) < address {
             lo = mid + 1;
         } else {
             hi = mid;
@@ -51,14 +41,7 @@ fn is_at(rows: &[u32], n: usize, k: usize, address: u32) -> bool
     requires { n * 4 ≤ length rows.now }
     ensures { Decides (AtAddress rows.now n k address) result }
 {
-    if k < n {
-        let held = address_of(rows, k);
-        if held == address {
-            return true;
-        }
-        return false;
-    }
-    false
+    k < n && address_of(rows, k) == address
 }
 
 // Row k has another name.
@@ -79,21 +62,25 @@ pub fn add_relocation(
     address: u32,
     start: u32,
     size: u32,
-) -> Noted
+) -> Option<usize>
     requires { Ready rows.old src.now n start size }
     ensures { Adding rows.old src.now rows.new n address start size result }
 {
     let p = row_from(rows, src, n, address);
-    let taken = is_at(rows, n, p, address);
-    if taken {
+    if is_at(rows, n, p, address) {
         rename(rows, p, start, size);
-        return Noted::Held(n);
+        return Some(n);
     }
     if base_capacities::RELOCATIONS <= n {
-        return Noted::Full;
+        return None;
     }
-    base_rows::insert_four(rows, n, p, address, 0, start, size);
-    Noted::Held(n + 1)
+    base_rows::insert(
+        rows,
+        n * base_capacities::LABEL_CELLS,
+        p * base_capacities::LABEL_CELLS,
+        &[address, 0, start, size],
+    );
+    Some(n + 1)
 }
 
 // The row of the label that row k names, among m symbols that have it.
@@ -109,8 +96,8 @@ fn label_row(rows: &[u32], src: &[u8], n: usize, k: usize, symbols: &[u32], m: u
         rows[i + base_capacities::NAME_START],
         rows[i + base_capacities::NAME_LENGTH],
     ) {
-        Row::At(j) => narrow(j),
-        Row::Nothing => 0,
+        Some(j) => j as u32,
+        None => 0,
     }
 }
 
@@ -119,12 +106,10 @@ fn lay_rows(rows: &[u32], src: &[u8], n: usize, symbols: &[u32], m: usize, reloc
     requires { Resolved rows.now src.now n symbols.now m × (n * 2 ≤ length relocations.old) × Blank relocations.old }
     ensures { relocations.new ≡ lay (reloc_cells (labels_of m symbols.now src.now) (notes n rows.now src.now)) (length relocations.old) }
 {
-    let mut k = 0;
-    while k < n {
+    for k in 0..n {
         let address = address_of(rows, k);
         let row = label_row(rows, src, n, k, symbols, m);
-        base_buffers::row_u32(relocations, k, address, row);
-        k += 1;
+        base_buffers::row(relocations, k, address, row);
     }
 }
 
@@ -140,6 +125,6 @@ pub fn lay_relocations(
     requires { Resolved rows.now src.now n symbols.now m × (n * 2 ≤ length relocations.old) }
     ensures { relocations.new ≡ lay (reloc_cells (labels_of m symbols.now src.now) (notes n rows.now src.now)) (length relocations.old) }
 {
-    base_buffers::zero_u32(relocations);
+    base_buffers::clear(relocations, 0);
     lay_rows(rows, src, n, symbols, m, relocations);
 }

@@ -1,4 +1,7 @@
 -- The rules' state of pass one that the code's state stands for. Assumes nothing.
+use Rattle.base_refusals.specs.declared.Refusal.{Refusal}
+use Rattle.std.specs.declared.result.Result.{Result}
+use Rattle.std.specs.declared.result.Result.TheVariants.{Ok, Err}
 use Rattle.std.specs.Prelude.{◌≡◌, Bool, true, false, ℕ, ◌*◌, ◌≤◌, ◌<◌}
 use Rattle.std.proofs.Math.Option.{Option, none, some}
 use Rattle.rules.specs.Base.{Outcome, ok, Span, span}
@@ -8,8 +11,6 @@ use Rattle.rules.specs.Passes.{Symbol, Cursor, pass1_state}
 use Rattle.rules.specs.Passes as rule
 use Rattle.base_refusals.specs.Refusals.{refused_by}
 use Rattle.pass1_state.specs.declared.Pass1State.{Pass1State}
-use Rattle.pass1_state.specs.declared.Pass1Step.{Pass1Step}
-use Rattle.pass1_state.specs.declared.Pass1Step.TheVariants.{Went, Refused}
 
 abbrev pub cursor : (start counter : ℕ) → Span → Cursor
 cursor s c p = record { start = s; counter = c; place = p }
@@ -23,9 +24,9 @@ abbrev pub view_pass1 : (ℕ → Table Name Symbol) → (ℕ → Table ℕ Name)
 view_pass1 x y o = pass1_state (cursor_of o.inside (cursor o.start o.counter (span o.orig_start o.orig_end))) (x o.labels) (y o.relocations) o.blocks o.words
 
 -- what a step's answer stands for
-abbrev pub told : (ℕ → Table Name Symbol) → (ℕ → Table ℕ Name) → Pass1Step → Outcome rule.Pass1State
-told x y (Went o) = ok (view_pass1 x y o)
-told x y (Refused f) = refused_by f
+abbrev pub told : (ℕ → Table Name Symbol) → (ℕ → Table ℕ Name) → Result Pass1State Refusal → Outcome rule.Pass1State
+told x y (Ok o) = ok (view_pass1 x y o)
+told x y (Err f) = refused_by f
 
 -- what always holds of the state: addresses of two bytes, and sums that fit
 pub record Steady (o : Pass1State) : Type 0 where
@@ -41,9 +42,9 @@ pub record Kept (o o' : Pass1State) : Type 0 where
   pub relocations : o'.relocations ≡ o.relocations
 
 -- a step from o that changes no table, whatever the tables are
-pub record Stepping (o : Pass1State) (f : (ℕ → Table Name Symbol) → (ℕ → Table ℕ Name) → Outcome rule.Pass1State) (r : Pass1Step) : Type 0 where
+pub record Stepping (o : Pass1State) (f : (ℕ → Table Name Symbol) → (ℕ → Table ℕ Name) → Outcome rule.Pass1State) (r : Result Pass1State Refusal) : Type 0 where
   pub rule : (x : ℕ → Table Name Symbol) (y : ℕ → Table ℕ Name) → told x y r ≡ f x y
-  pub kept : (o' : Pass1State) → r ≡ Went o' → Kept o o'
+  pub kept : (o' : Pass1State) → r ≡ Ok o' → Kept o o'
 
 -- pass one before the first statement
 abbrev pub fresh : Pass1State

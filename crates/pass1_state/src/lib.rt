@@ -1,7 +1,7 @@
 // What pass one keeps beside its tables, whatever changes it, and the steps that change no table: the counter's advance, .orig and .end.
 #![tactic(auto)]
 
-ghost use Rattle.std.specs.Prelude.{◌≡◌, ◌+◌, ◌-◌, ◌≤◌, ◌<◌};
+ghost use Rattle.std.specs.Prelude.{◌≡◌, ◌+◌, ◌-◌, ◌≤◌, ◌<◌, Err};
 ghost use Rattle.rules.specs.Base.{span};
 ghost use Rattle.rules.specs.Words.{orig};
 ghost use Rattle.rules.specs.Words as Words;
@@ -10,7 +10,6 @@ ghost use Rattle.rules.specs.Passes.{advanced, directed};
 ghost use Rattle.base_refusals.specs.Refusals.{refusal_at};
 ghost use Rattle.pass1_state.specs.State.{view_pass1, fresh, with_labels, with_relocations, counting, opening, closing, Steady, Stepping};
 
-use base_casts::wide;
 use base_refusals::Refusal;
 
 // The open block's start, counter and .orig, where a block is open; the rows of both tables; and how many blocks with words are closed, with how many words.
@@ -27,18 +26,11 @@ pub struct Pass1State {
     pub words: usize,
 }
 
-// The state after a step, or the refusal with its number and both spans.
-#[derive(Clone, Copy)]
-pub enum Pass1Step {
-    Went(Pass1State),
-    Refused(Refusal),
-}
-
 // A refusal at one place.
-pub fn refused(number: u16, start: usize, end: usize) -> Pass1Step
-    ensures { result ≡ Pass1Step.Refused (refusal_at number start end) }
+pub fn refused(number: u16, start: usize, end: usize) -> Result<Pass1State, Refusal>
+    ensures { result ≡ Err (refusal_at number start end) }
 {
-    Pass1Step::Refused(Refusal {
+    Err(Refusal {
         number,
         start,
         end,
@@ -68,34 +60,14 @@ pub fn fresh() -> Pass1State
 pub fn with_labels(o: Pass1State, labels: usize) -> Pass1State
     ensures { result ≡ with_labels o labels }
 {
-    Pass1State {
-        inside: o.inside,
-        start: o.start,
-        counter: o.counter,
-        orig_start: o.orig_start,
-        orig_end: o.orig_end,
-        labels,
-        relocations: o.relocations,
-        blocks: o.blocks,
-        words: o.words,
-    }
+    Pass1State { labels, ..o }
 }
 
 // The state with so many rows of relocations.
 pub fn with_relocations(o: Pass1State, relocations: usize) -> Pass1State
     ensures { result ≡ with_relocations o relocations }
 {
-    Pass1State {
-        inside: o.inside,
-        start: o.start,
-        counter: o.counter,
-        orig_start: o.orig_start,
-        orig_end: o.orig_end,
-        labels: o.labels,
-        relocations,
-        blocks: o.blocks,
-        words: o.words,
-    }
+    Pass1State { relocations, ..o }
 }
 
 // The state with another counter.
@@ -104,14 +76,8 @@ pub fn counted(o: Pass1State, counter: u32) -> Pass1State
 {
     Pass1State {
         inside: true,
-        start: o.start,
         counter,
-        orig_start: o.orig_start,
-        orig_end: o.orig_end,
-        labels: o.labels,
-        relocations: o.relocations,
-        blocks: o.blocks,
-        words: o.words,
+        ..o
     }
 }
 
@@ -125,10 +91,7 @@ fn begin(o: Pass1State, address: u32, orig_start: usize, orig_end: usize) -> Pas
         counter: address,
         orig_start,
         orig_end,
-        labels: o.labels,
-        relocations: o.relocations,
-        blocks: o.blocks,
-        words: o.words,
+        ..o
     }
 }
 
@@ -138,45 +101,45 @@ fn shut(o: Pass1State, blocks: usize, words: usize) -> Pass1State
 {
     Pass1State {
         inside: false,
-        start: o.start,
-        counter: o.counter,
-        orig_start: o.orig_start,
-        orig_end: o.orig_end,
-        labels: o.labels,
-        relocations: o.relocations,
         blocks,
         words,
+        ..o
     }
 }
 
 // The counter goes on by a statement's size: 27 from xFE01 to x10000, 26 above.
-pub fn shift(o: Pass1State, size: u32, start: usize, end: usize) -> Pass1Step
+pub fn shift(o: Pass1State, size: u32, start: usize, end: usize) -> Result<Pass1State, Refusal>
     requires { Steady o × (size ≤ 262145) }
     ensures { Stepping o (λ x y. advanced size (span start end) (view_pass1 x y o)) result }
 {
     if o.inside {
         if size == 0 {
-            return Pass1Step::Went(o);
+            return Ok(o);
         }
         let counter = o.counter + size;
         if counter <= base_capacities::IO_START {
-            return Pass1Step::Went(counted(o, counter));
+            return Ok(counted(o, counter));
         }
         if counter <= base_capacities::ADDRESSES {
             return refused(base_refusals::BLOCK_IN_IO, start, end);
         }
         return refused(base_refusals::WRAPPING_BLOCK, start, end);
     }
-    Pass1Step::Went(o)
+    Ok(o)
 }
 
 // .orig: a block begins; 24 with both .orig where one is open.
-pub fn begin_block(o: Pass1State, address: u32, start: usize, end: usize) -> Pass1Step
+pub fn begin_block(
+    o: Pass1State,
+    address: u32,
+    start: usize,
+    end: usize,
+) -> Result<Pass1State, Refusal>
     requires { Steady o × (address < 65536) }
     ensures { (s : Stmt) → s.bits ≡ address → s.place ≡ span start end → Stepping o (λ x y. directed orig s (view_pass1 x y o)) result }
 {
     if o.inside {
-        return Pass1Step::Refused(Refusal {
+        return Err(Refusal {
             number: base_refusals::OVERLAPPING_ORIG,
             start: o.orig_start,
             end: o.orig_end,
@@ -184,23 +147,23 @@ pub fn begin_block(o: Pass1State, address: u32, start: usize, end: usize) -> Pas
             end2: end,
         });
     }
-    Pass1Step::Went(begin(o, address, start, end))
+    Ok(begin(o, address, start, end))
 }
 
 // .end: the block ends, and counts where it has words: 40 where no row is left for it; 23 where none is open.
-pub fn end_block(o: Pass1State, start: usize, end: usize) -> Pass1Step
+pub fn end_block(o: Pass1State, start: usize, end: usize) -> Result<Pass1State, Refusal>
     requires { Steady o }
     ensures { (s : Stmt) → s.place ≡ span start end → Stepping o (λ x y. directed Words.end s (view_pass1 x y o)) result }
 {
     if o.inside {
         let blocks = o.blocks;
         let words = o.words;
-        let size = wide(o.counter - o.start);
+        let size = (o.counter - o.start) as usize;
         if size == 0 {
-            return Pass1Step::Went(shut(o, blocks, words));
+            return Ok(shut(o, blocks, words));
         }
         if blocks < base_capacities::BLOCKS {
-            return Pass1Step::Went(shut(o, blocks + 1, words + size));
+            return Ok(shut(o, blocks + 1, words + size));
         }
         return refused(base_refusals::TABLE_FULL, start, end);
     }

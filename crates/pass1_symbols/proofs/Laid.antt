@@ -1,22 +1,11 @@
 -- The symbol table as an object's labels. Assumes nothing.
 use mathlib.Core.Path.{◌≡◌, refl, sym, ap}
 use mathlib.Core.List.{List, ◌∷◌}
-use Prim.Native.Nat.{ℕ, zero, suc, ◌+◌, ◌*◌}
-use native.Mathlib.Omega.{arith}
-use lib.ListN.{get_or, drop, length-take}
+use Prim.Native.Nat.{ℕ, zero, suc}
 use Rattle.rules.specs.Tables.{Table, map_t}
 use Rattle.rules.specs.Buffers.{tab}
-use Rattle.object_layout_labels.specs.Laying.{Layable, upper_labels, LaidLabels}
-use Rattle.pass1_symbols.specs.Symbols.{symbol_row, symbols, Growing}
-
-pub growing-layable : {rs src : List ℕ} {n : ℕ} → Growing rs src n → Layable rs src n
-growing-layable {rs} {src} v = record {
-  few = v.few;
-  room = omega (arith, v.few, v.room);
-  small = λ k l. omega (arith, (v.rows k l).small, length-take (get_or rs (k * 4 + 3) 0) (drop (get_or rs (k * 4 + 2) 0) src));
-  flag = λ k l. (v.rows k l).flag;
-  outside = λ k l. (v.rows k l).outside;
-}
+use Rattle.object_layout_labels.specs.Laying.{upper_labels, LaidLabels}
+use Rattle.pass1_symbols.specs.Symbols.{symbol_row, symbols}
 
 map-tab : {K U W : Type 0} (g : K → U → W) (n : ℕ) (f : ℕ → K × U) → map_t g (tab n f) ≡ tab n (λ k. ((f k).0, g (f k).0 (f k).1))
 map-tab g zero f = refl

@@ -16,7 +16,7 @@ use Rattle.base_rows.proofs.Read.{get-before, get-new, get_after, get-past}
 use Rattle.base_rows.proofs.Sorted.{Belongs, table-new, table_up, rows-kept, row_before, row-after, row_new}
 use Rattle.base_keys.specs.Keys.{key_of}
 use Rattle.parse_labels.specs.Names.{name_from}
-use Rattle.pass1_symbols.specs.Symbols.{entry, symbol_row, symbols, key_row, Cells, Growing, InsertAt, Inserted}
+use Rattle.pass1_symbols.specs.Symbols.{entry, symbol_row, symbols, key_row, Cells, InsertAt, Inserted}
 
 -- rs with the row is ss, and with the key of its name, in two halves, rs'
 module _ {rs src ss rs' : List ℕ} {n p a f s l : ℕ} (low high : ℕ) (v : InsertAt rs src n p a f s l)

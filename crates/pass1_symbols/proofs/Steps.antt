@@ -1,14 +1,14 @@
 -- What each way through a search by keys and through `add_symbol` shows. Assumes nothing.
+use Rattle.std.specs.declared.option.Option.TheVariants.{Some, None}
 use mathlib.Core.Path.{◌≡◌, refl, sym, ◌∙◌, ap}
 use mathlib.Core.Bool.{Bool, true, false}
 use mathlib.Core.Option.{Option, none, some}
 use mathlib.Core.List.{List, map}
-use Prim.Native.Nat.{ℕ, zero, suc, ◌+◌, ◌-◌, ◌*◌, ◌/◌, ◌≤◌, ◌<◌}
-use native.Mathlib.Nat.{add-sub_cancel_left}
+use Prim.Native.Nat.{ℕ, zero, suc, ◌+◌, ◌*◌, ◌≤◌, ◌<◌}
 use native.Mathlib.Decide.{dec_lt}
 use native.Mathlib.Omega.{arith}
 use lib.Dec.{eqb, ltb}
-use lib.ListN.{length, get_or, take, drop}
+use lib.ListN.{length, get_or}
 use borrow.Author.Tests.{eq-eqb, ne_eqb, lt-ltb, le-ltb}
 use Rattle.rules.specs.Base.{when◌then◌else◌, Outcome, ok, refuse, refuse2, Span}
 use Rattle.rules.specs.Tokens.{upper}
@@ -20,32 +20,19 @@ use Rattle.rules.specs.Buffers.{lab_from}
 use Rattle.rules.proofs.Rows.{length-tab, look-tab, look_none, sorted-tab}
 use Rattle.rules.proofs.Bools.{never}
 use Rattle.base_text.specs.Names.{ordered}
-use Rattle.base_text.specs.declared.Order.TheVariants.{Less, Greater}
+use Rattle.std.specs.declared.cmp.Ordering.TheVariants.{Less, Greater}
 use Rattle.base_keys.specs.Keys.{key_of}
 use Rattle.base_keys.proofs.KeyLaws.{key-less, key_more}
 use Rattle.parse_labels.specs.Names.{name_from}
 use Rattle.object.specs.Slots.{upper_name, Rising, Slotted}
-use Rattle.object.proofs.Halving.{Halving}
 use Rattle.object.specs.declared.Slot.{Slot}
 use Rattle.object.specs.declared.Slot.TheVariants.{Taken, Free}
 use Rattle.pass1_symbols.specs.Symbols.{symbol_row, symbols, key_row, KeyedRow, Growing, InsertAt, Inserted}
 use Rattle.pass1_symbols.specs.Adding.{named_at, Ready, Adding, Found}
-use Rattle.pass1_symbols.specs.declared.Row.TheVariants.{At, Nothing}
 use Rattle.pass1_symbols.specs.declared.Added.TheVariants.{Held, Clash, Full}
 
 pub rising : {rs src : List ℕ} {n : ℕ} → Growing rs src n → Rising rs src n
 rising v = record { up = record { next = v.up.next } }
-
--- the part of the source that a row says
-module _ (src : List ℕ) {a m s l : ℕ} (p : a ≡ s) (q : m ≡ l) where
-  pub key-part : {key : ℕ} → key ≡ key_of (map upper (take (a + m - a) (drop a src))) → key ≡ key_of (name_from src s l)
-  key-part t = rw (add-sub_cancel_left, p, q) at t
-
-  pub part-key : {key : ℕ} → key ≡ key_of (name_from src s l) → key ≡ key_of (map upper (take (a + m - a) (drop a src)))
-  part-key t = rw (add-sub_cancel_left, p, q) t
-
-  pub slot-part : (rs : List ℕ) (n : ℕ) (r : Slot) → Slotted rs src n (map upper (take (a + m - a) (drop a src))) r → Slotted rs src n (name_from src s l) r
-  slot-part rs n r t = rw (add-sub_cancel_left, p, q) at t
 
 -- the order by keys
 module _ {rs src : List ℕ} (name : List ℕ) {k key held : ℕ} (v : KeyedRow rs src k) (p : key ≡ key_of (map upper name)) (q : held ≡ key_row rs k) where
@@ -54,10 +41,6 @@ module _ {rs src : List ℕ} (name : List ℕ) {k key held : ℕ} (v : KeyedRow 
 
   pub keyed-more : key < held → Greater ≡ ordered (upper_name rs src k) (map upper name)
   keyed-more h = key_more (upper_name rs src k) (map upper name) (q ∙ v.key) p h
-
--- the row in the middle
-pub middle-keyed : {rs src : List ℕ} {n lo hi : ℕ} {x : Name} → Growing rs src n → Halving rs src n x lo hi → lo < hi → KeyedRow rs src (lo + (hi - lo) / 2)
-middle-keyed v t h = record { within = omega (arith, v.few, v.room, t.within); key = v.keys _ (omega (arith, t.within)) }
 
 module _ {rs src : List ℕ} {n a f s l : ℕ} {r : Slot} (v : Ready rs src n a f s l) (t : Slotted rs src n (name_from src s l) r) where
   pub taken_in : {k : ℕ} → r ≡ Taken k → k * 4 + 4 ≤ length rs
@@ -94,10 +77,10 @@ unsaid rs src n p x t e = look_none name_order n (symbol_row rs src) x go
     ]
 
 module _ {rs src : List ℕ} {n : ℕ} {x : Name} {r : Slot} (v : Growing rs src n) (t : Slotted rs src n x r) where
-  pub found-row : {k : ℕ} → r ≡ Taken k → Found n rs src x (At k)
+  pub found-row : {k : ℕ} → r ≡ Taken k → Found n rs src x (Some k)
   found-row {k} e = let u = t.taken k e in record { says = sym (said rs src n k x v u.0 u.1); row = λ j q. (let y : k ≡ j = cc in rw y at (t.taken k e)) }
 
-  pub found_none : {p : ℕ} → r ≡ Free p → Found n rs src x Nothing
+  pub found_none : {p : ℕ} → r ≡ Free p → Found n rs src x None
   found_none {p} e = record { says = sym (unsaid rs src n p x t e); row = λ j q. (never cc) }
 
 count : (n : ℕ) (rs src : List ℕ) → length (symbols n rs src) ≡ n

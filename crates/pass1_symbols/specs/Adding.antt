@@ -1,4 +1,6 @@
 -- A name at an address is added as the rules' `add_label` adds it. Assumes nothing.
+use Rattle.std.specs.declared.option.Option as O
+use Rattle.std.specs.declared.option.Option.TheVariants.{Some, None}
 use Rattle.std.specs.Prelude.{◌≡◌, List, ℕ, ◌+◌, ◌<◌}
 use Rattle.std.proofs.Math.Option.{Option, none, some}
 use Rattle.rules.specs.Base.{Outcome, ok, refuse, refuse2, Span, span}
@@ -11,8 +13,6 @@ use Rattle.parse_labels.specs.Names.{name_from}
 use Rattle.pass1_symbols.specs.Symbols.{symbol_row, symbols, Cells, Growing}
 use Rattle.pass1_symbols.specs.declared.Added.{Added}
 use Rattle.pass1_symbols.specs.declared.Added.TheVariants.{Held, Clash, Full}
-use Rattle.pass1_symbols.specs.declared.Row.{Row}
-use Rattle.pass1_symbols.specs.declared.Row.TheVariants.{At, Nothing}
 
 -- the name as a statement has it
 abbrev pub named_at : List ℕ → ℕ → ℕ → S.Name
@@ -35,11 +35,11 @@ pub record Adding (rs src rs' : List ℕ) (n a f s l : ℕ) (r : Added) : Type 0
   pub clash : (k : ℕ) → r ≡ Clash k → (k < n) × (rs' ≡ rs)
 
 -- the symbol of a row
-abbrev pub found : (rs src : List ℕ) → Row → Option Symbol
-found rs src (At k) = some (symbol_row rs src k).1
-found rs src Nothing = none
+abbrev pub found : (rs src : List ℕ) → O.Option ℕ → Option Symbol
+found rs src (Some k) = some (symbol_row rs src k).1
+found rs src None = none
 
 -- what the table says of a name, and the row that has it
-pub record Found (n : ℕ) (rs src : List ℕ) (x : Name) (r : Row) : Type 0 where
+pub record Found (n : ℕ) (rs src : List ℕ) (x : Name) (r : O.Option ℕ) : Type 0 where
   pub says : found rs src r ≡ look name_order (symbols n rs src) x
-  pub row : (k : ℕ) → r ≡ At k → (k < n) × ((symbol_row rs src k).0 ≡ x)
+  pub row : (k : ℕ) → r ≡ Some k → (k < n) × ((symbol_row rs src k).0 ≡ x)

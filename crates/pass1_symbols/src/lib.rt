@@ -12,9 +12,8 @@ ghost use Rattle.object.specs.Slots.{upper_name, Slotted};
 ghost use Rattle.pass1_symbols.specs.Symbols.{symbols, key_row, KeyedRow, Growing, InsertAt, Inserted};
 ghost use Rattle.pass1_symbols.specs.Adding.{Found, Ready, Adding};
 
-use base_casts::{long32, wide};
-use base_text::Order;
 use object::Slot;
+use std::cmp::Ordering;
 
 // Behind the rows stand the keys of their names, each in two cells, the lower half first.
 const KEYS: usize = base_capacities::PASS1_CELLS;
@@ -35,13 +34,6 @@ pub enum Added {
     Full,
 }
 
-// The row of a name that the table has.
-#[derive(Clone, Copy)]
-pub enum Row {
-    At(usize),
-    Nothing,
-}
-
 // The address of row k.
 fn address_of(rows: &[u32], k: usize) -> u32
     requires { k * 4 + 4 ≤ length rows.now }
@@ -57,21 +49,20 @@ fn key_at(rows: &[u32], k: usize) -> u64
     ensures { result ≡ key_row rows.now k }
 {
     let i = KEYS + k * KEY_CELLS;
-    let next = i + 1;
-    long32(rows[i]) + long32(rows[next]) * CELL
+    u64::from(rows[i]) + u64::from(rows[i + 1]) * CELL
 }
 
 // The order of the name of row k and a name with its key: by their keys, and where these are the same by their bytes.
-fn compare_keyed(rows: &[u32], src: &[u8], k: usize, name: &[u8], key: u64) -> Order
+fn compare_keyed(rows: &[u32], src: &[u8], k: usize, name: &[u8], key: u64) -> Ordering
     requires { KeyedRow rows.now src.now k × (key ≡ key_of (map upper name.now)) }
     ensures { result ≡ ordered (upper_name rows.now src.now k) (map upper name.now) }
 {
     let held = key_at(rows, k);
     if held < key {
-        return Order::Less;
+        return Ordering::Less;
     }
     if key < held {
-        return Order::Greater;
+        return Ordering::Greater;
     }
     object::compare_row(rows, src, k, name)
 }
@@ -83,16 +74,17 @@ fn slot_keyed(rows: &[u32], src: &[u8], n: usize, name: &[u8], key: u64) -> Slot
 {
     let mut lo = 0;
     let mut hi = n;
+    // A while: each turn halves what is left.
     while lo < hi {
         let mid = lo + (hi - lo) / 2;
         match compare_keyed(rows, src, mid, name, key) {
-            Order::Less => {
+            Ordering::Less => {
                 lo = mid + 1;
             }
-            Order::Greater => {
+            Ordering::Greater => {
                 hi = mid;
             }
-            Order::Same => {
+            Ordering::Equal => {
                 return Slot::Taken(mid);
             }
         }
@@ -105,8 +97,8 @@ fn key_from(src: &[u8], start: u32, size: u32) -> u64
     requires { start + size ≤ length src.now }
     ensures { result ≡ key_of (name_from src.now start size) }
 {
-    let from = wide(start);
-    let to = from + wide(size);
+    let from = start as usize;
+    let to = from + size as usize;
     base_keys::key_of(&src[from..to])
 }
 
@@ -115,20 +107,20 @@ fn slot_at(rows: &[u32], src: &[u8], n: usize, start: u32, size: u32, key: u64) 
     requires { Growing rows.now src.now n × (start + size ≤ length src.now) × (key ≡ key_of (name_from src.now start size)) }
     ensures { Slotted rows.now src.now n (name_from src.now start size) result }
 {
-    let from = wide(start);
-    let to = from + wide(size);
+    let from = start as usize;
+    let to = from + size as usize;
     slot_keyed(rows, src, n, &src[from..to], key)
 }
 
 // What the table says of the name at `start` of the source, `size` bytes long: the row that has it.
-pub fn find_symbol(rows: &[u32], src: &[u8], n: usize, start: u32, size: u32) -> Row
+pub fn find_symbol(rows: &[u32], src: &[u8], n: usize, start: u32, size: u32) -> Option<usize>
     requires { Growing rows.now src.now n × (start + size ≤ length src.now) }
     ensures { Found n rows.now src.now (name_from src.now start size) result }
 {
     let key = key_from(src, start, size);
     match slot_at(rows, src, n, start, size, key) {
-        Slot::Taken(k) => Row::At(k),
-        Slot::Free(_) => Row::Nothing,
+        Slot::Taken(k) => Some(k),
+        Slot::Free(_) => None,
     }
 }
 
@@ -160,8 +152,18 @@ fn insert_symbol(
     requires { InsertAt rows.old src.now n p address flag start size × (key ≡ key_of (name_from src.now start size)) }
     ensures { Inserted rows.old src.now rows.new n address flag start size }
 {
-    base_rows::insert_four(rows, n, p, address, flag, start, size);
-    base_rows::insert_two(rows, KEYS, n, p, low_half(key), high_half(key));
+    base_rows::insert(
+        rows,
+        n * base_capacities::LABEL_CELLS,
+        p * base_capacities::LABEL_CELLS,
+        &[address, flag, start, size],
+    );
+    base_rows::insert(
+        rows,
+        KEYS + n * KEY_CELLS,
+        KEYS + p * KEY_CELLS,
+        &[low_half(key), high_half(key)],
+    );
 }
 
 // A name of the source at an address, as pass one meets it; the flag is 1 of an external, whose address is 0.

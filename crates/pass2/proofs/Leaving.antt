@@ -1,4 +1,7 @@
 -- What pass two leaves in the buffers of a source that it accepts: closed blocks, their words, and zeros. Assumes nothing.
+use Rattle.base_refusals.specs.declared.Refusal.{Refusal}
+use Rattle.std.specs.declared.result.Result.{Result}
+use Rattle.std.specs.declared.result.Result.TheVariants.{Ok, Err}
 use mathlib.Core.Path.{◌≡◌, refl, sym, ◌∙◌, ap}
 use mathlib.Core.Bool.{Bool}
 use mathlib.Core.List.{List, [], ◌∷◌}
@@ -13,8 +16,6 @@ use Rattle.rules.specs.Buffers.{head_row, sum_of, zeros, WordsOk}
 use Rattle.pass2_blocks.specs.Rows.{view_obj_blocks}
 use Rattle.pass1_symbols.specs.Symbols.{symbols}
 use Rattle.pass2_statement.specs.declared.Pass2State.{Pass2State}
-use Rattle.pass2_statement.specs.declared.Pass2Step.{Pass2Step}
-use Rattle.pass2_statement.specs.declared.Pass2Step.TheVariants.{Went}
 use Rattle.pass2_statement.specs.State.{open_of, opened, told, Standing}
 use Rattle.pass2.specs.Passing.{PassedTwo}
 
@@ -28,7 +29,7 @@ rest-zero zero l h = let e : length l - 0 ≡ length l = omega arith in rw e (al
 rest-zero (suc k) [] h = let e : 0 - suc k ≡ 0 = omega arith in rw e
 rest-zero (suc k) (x ∷ l) h = let e : suc (length l) - suc k ≡ length l - k = omega arith in rw e (rest-zero k l (λ i q. h (suc i) (omega arith)))
 
-module _ (rs src : List ℕ) (n : ℕ) (bs os ws ms : List ℕ) (r : Pass2Step) (p : PassedTwo rs src n bs os ws ms r) (t : Pass2State) (e : r ≡ Went t) where
+module _ (rs src : List ℕ) (n : ℕ) (bs os ws ms : List ℕ) (r : Result Pass2State Refusal) (p : PassedTwo rs src n bs os ws ms r) (t : Pass2State) (e : r ≡ Ok t) where
   k : Standing bs os ws ms t
   k = p.kept t e
 

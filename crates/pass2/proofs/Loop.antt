@@ -1,4 +1,10 @@
 -- Pass two over statement after statement, as its loop goes. Assumes nothing.
+use Rattle.std.specs.declared.result.Result.{Result}
+use Rattle.std.specs.declared.result.Result.TheVariants.{Ok, Err}
+use Rattle.std.specs.declared.option.Option as O
+use Rattle.std.specs.declared.option.Option.TheVariants.{Some, None}
+use Rattle.base_refusals.specs.declared.Fault.{Fault}
+use Rattle.base_refusals.specs.Refusals.{fault}
 use mathlib.Core.Path.{◌≡◌, refl, sym, ◌∙◌, ap}
 use mathlib.Core.Bool.{Bool, true, false}
 use mathlib.Core.List.{List, [], ◌∷◌}
@@ -21,16 +27,12 @@ use Rattle.laws.proofs.Steps.{ended}
 use Rattle.laws.proofs.Alongside.{Level, Alongside, along-start, along-step}
 use Rattle.pass2_blocks.specs.Rows.{view_obj_blocks}
 use Rattle.parse.specs.declared.Statement.{Statement}
-use Rattle.parse.specs.declared.NextStatement.{NextStatement}
-use Rattle.parse.specs.declared.NextStatement.TheVariants as next
 use Rattle.parse.specs.Coded.{coded_read, coded_statement}
 use Rattle.parse.proofs.All.{WasRead, was_read, was-end, was-refused}
 use Rattle.pass1_symbols.specs.Symbols.{symbols, Growing}
 use Rattle.parse_meaning.specs.Reading.{Faithful}
 use Rattle.parse_meaning.proofs.Read.{faithful}
 use Rattle.pass2_statement.specs.declared.Pass2State as code
-use Rattle.pass2_statement.specs.declared.Pass2Step.{Pass2Step}
-use Rattle.pass2_statement.specs.declared.Pass2Step.TheVariants.{Went, Refused}
 use Rattle.pass2_words.specs.Writing.{Room, Wrote}
 use Rattle.pass2_statement.specs.State.{open_of, opened, view_pass2, told, Standing, Stepping, Writes, with_used}
 use Rattle.pass2_statement.proofs.Known.{Known, known-room, known-low, known-steps}
@@ -106,7 +108,7 @@ going_start rs src n bs os ws ms v t e = rw e (record {
   marks = v.marks;
 })
 
-module _ (rs src : List ℕ) (n : ℕ) (bs₀ os₀ ws₀ ms₀ bs os ws ms : List ℕ) (at : ℕ) (t : code.Pass2State) (g : Going rs src n bs₀ os₀ ws₀ ms₀ bs os ws ms at t) (x : NextStatement) (h : x ≡ coded_statement (next_statement src at)) where
+module _ (rs src : List ℕ) (n : ℕ) (bs₀ os₀ ws₀ ms₀ bs os ws ms : List ℕ) (at : ℕ) (t : code.Pass2State) (g : Going rs src n bs₀ os₀ ws₀ ms₀ bs os ws ms at t) (x : Result (O.Option Statement) Fault) (h : x ≡ coded_statement (next_statement src at)) where
   abbrev y : Table Name Symbol
   y = symbols n rs src
 
@@ -114,14 +116,14 @@ module _ (rs src : List ℕ) (n : ℕ) (bs₀ os₀ ws₀ ms₀ bs os ws ms : Li
   one-reading ss e = let z : ok g.stmts ≡ ok ss = sym g.read ∙ e in cc
 
   -- a source whose statements are refused
-  pub going-stop : (m a e : ℕ) → x ≡ next.Refused m a e → (r : Pass2Step) → PassedTwo rs src n bs os ws ms r
-  going-stop m a e q r =
-      let w = was-refused (next_statement src at) m a e (sym h ∙ q) in
+  pub going-stop : (f : Fault) → x ≡ Err f → (r : Result code.Pass2State Refusal) → PassedTwo rs src n bs os ws ms r
+  going-stop f q r =
+      let w = was-refused (next_statement src at) f (sym h ∙ q) in
       let z : ok g.rest ≡ refused w.refusal = sym g.left ∙ statements-refused src at w.refusal w.is in
       never cc
 
   -- the end: pass one has no open block there
-  module _ (q : x ≡ next.End) where
+  module _ (q : x ≡ Ok None) where
     none_left : g.rest ≡ []
     none_left = let z : ok g.rest ≡ ok [] = sym g.left ∙ statements-none src at (was-end (next_statement src at) (sym h ∙ q)) in cc
 
@@ -132,7 +134,7 @@ module _ (rs src : List ℕ) (n : ℕ) (bs₀ os₀ ws₀ ms₀ bs os ws ms : Li
         go true l = absurd l
         go false l = refl
 
-    pub going_end : PassedTwo rs src n bs os ws ms (Went t)
+    pub going_end : PassedTwo rs src n bs os ws ms (Ok t)
     going_end = record {
       rule = λ ss e. rw (← one-reading ss e) (sym (two-done y (view_pass2 bs os ws ms t)) ∙ (ap (λ (l : List Stmt). pass_two y l (view_pass2 bs os ws ms t)) (sym none_left) ∙ g.same));
       kept = λ u e. (let w : t ≡ u = cc in rw w at g.standing);
@@ -140,7 +142,7 @@ module _ (rs src : List ℕ) (n : ℕ) (bs₀ os₀ ws₀ ms₀ bs os ws ms : Li
     }
 
   -- a statement
-  module _ (st : Statement) (q : x ≡ next.Read st) where
+  module _ (st : Statement) (q : x ≡ Ok (Some st)) where
     it : WasRead (next_statement src at) st
     it = was_read (next_statement src at) st (sym h ∙ q)
 
@@ -170,7 +172,7 @@ module _ (rs src : List ℕ) (n : ℕ) (bs₀ os₀ ws₀ ms₀ bs os ws ms : Li
     pub going-writes : Writes rs src n bs os ws ms st t
     going-writes = writes bs os ws ms t g.standing src at st s true-to behind.rest g.here g.final g.along ahead g.words g.marks rs n (ready rs src n at it.read st it.is it.coded true-to g.table g.size)
 
-    module _ (bs' os' ws' ms' : List ℕ) (a : Pass2Step) (k : (at : ℕ) (s : Stmt) → Faithful src at st s → Stepping bs' os' ws' ms' (written y s.op s (view_pass2 bs os ws ms t)) a) where
+    module _ (bs' os' ws' ms' : List ℕ) (a : Result code.Pass2State Refusal) (k : (at : ℕ) (s : Stmt) → Faithful src at st s → Stepping bs' os' ws' ms' (written y s.op s (view_pass2 bs os ws ms t)) a) where
       step : Stepping bs' os' ws' ms' (written y s.op s (view_pass2 bs os ws ms t)) a
       step = k at s true-to
 
@@ -180,7 +182,7 @@ module _ (rs src : List ℕ) (n : ℕ) (bs₀ os₀ ws₀ ms₀ bs os ws ms : Li
           ∙ (sym (two-more y s behind.rest (view_pass2 bs os ws ms t))
           ∙ (ap (λ (l : List Stmt). pass_two y l (view_pass2 bs os ws ms t)) (sym behind.first) ∙ g.same))
 
-      pub going_on : (u : code.Pass2State) → a ≡ Went u → length bs' ≡ length bs → length os' ≡ length os → length ws' ≡ length ws → length ms' ≡ length ms → Going rs src n bs₀ os₀ ws₀ ms₀ bs' os' ws' ms' st.next u
+      pub going_on : (u : code.Pass2State) → a ≡ Ok u → length bs' ≡ length bs → length os' ≡ length os → length ws' ≡ length ws → length ms' ≡ length ms → Going rs src n bs₀ os₀ ws₀ ms₀ bs' os' ws' ms' st.next u
       going_on u e lb lo lw lm =
           let o = along-step y s behind.rest g.here g.final (view_pass2 bs os ws ms t) (view_pass2 bs' os' ws' ms' u) g.along ahead (sym step.rule ∙ ap (told bs' os' ws' ms') e) in
           record {
@@ -195,7 +197,7 @@ module _ (rs src : List ℕ) (n : ℕ) (bs₀ os₀ ws₀ ms₀ bs os ws ms : Li
             read = g.read;
             rest = behind.rest;
             left = behind.left;
-            same = sym (ap (λ (z : Pass2Step). told bs' os' ws' ms' z >>= pass_two y behind.rest) e) ∙ after;
+            same = sym (ap (λ (z : Result code.Pass2State Refusal). told bs' os' ws' ms' z >>= pass_two y behind.rest) e) ∙ after;
             final = g.final;
             here = o.state;
             ahead = o.rest;
@@ -204,11 +206,11 @@ module _ (rs src : List ℕ) (n : ℕ) (bs₀ os₀ ws₀ ms₀ bs os ws ms : Li
             marks = omega (arith, g.marks);
           }
 
-      pub going-refused : (f : Refusal) → a ≡ Refused f → PassedTwo rs src n bs' os' ws' ms' a
+      pub going-refused : (f : Refusal) → a ≡ Err f → PassedTwo rs src n bs' os' ws' ms' a
       going-refused f e = record {
-        rule = λ ss z. rw (← one-reading ss z) (ap (told bs' os' ws' ms') e ∙ (sym (ap (λ (z : Pass2Step). told bs' os' ws' ms' z >>= pass_two y behind.rest) e) ∙ after));
+        rule = λ ss z. rw (← one-reading ss z) (ap (told bs' os' ws' ms') e ∙ (sym (ap (λ (z : Result code.Pass2State Refusal). told bs' os' ws' ms' z >>= pass_two y behind.rest) e) ∙ after));
         kept = step.kept;
-        shut = λ u z. (let w : Refused f ≡ Went u = sym e ∙ z in never cc);
+        shut = λ u z. (let w : Err f ≡ Ok u = sym e ∙ z in never cc);
       }
 
     -- a statement whose word is known
@@ -220,4 +222,4 @@ module _ (rs src : List ℕ) (n : ℕ) (bs₀ os₀ ws₀ ms₀ bs os ws ms : Li
       going-low = known-low rs src n bs os ws ms st t going-writes k
 
       pub going-known : (ws' ms' : List ℕ) (u : code.Pass2State) → Wrote ws ms ws' ms' t.used (word st.bits ∷ []) × (u ≡ with_used t (t.used + 1)) → length ws' ≡ length ws → length ms' ≡ length ms → Going rs src n bs₀ os₀ ws₀ ms₀ bs os ws' ms' st.next u
-      going-known ws' ms' u w lw lm = going_on bs os ws' ms' (Went u) (known-steps rs src n bs os ws ms st t going-writes k ws' ms' w.0 lw lm u w.1) u refl refl refl lw lm
+      going-known ws' ms' u w lw lm = going_on bs os ws' ms' (Ok u) (known-steps rs src n bs os ws ms st t going-writes k ws' ms' w.0 lw lm u w.1) u refl refl refl lw lm

@@ -1,4 +1,7 @@
 -- Pass two over a whole source that pass one accepted. Assumes nothing.
+use Rattle.base_refusals.specs.declared.Refusal.{Refusal}
+use Rattle.std.specs.declared.result.Result.{Result}
+use Rattle.std.specs.declared.result.Result.TheVariants.{Ok, Err}
 use Rattle.std.specs.Prelude.{◌≡◌, false, List, ℕ, ◌≤◌, length}
 use Rattle.rules.specs.Base.{ok}
 use Rattle.rules.specs.Statements.{Stmt, statements}
@@ -6,8 +9,6 @@ use Rattle.rules.specs.Passes.{Pass1State, pass1_start, pass2_start, pass_one, p
 use Rattle.rules.specs.Buffers.{zeros}
 use Rattle.pass1_symbols.specs.Symbols.{symbols, Growing}
 use Rattle.pass2_statement.specs.declared.Pass2State.{Pass2State}
-use Rattle.pass2_statement.specs.declared.Pass2Step.{Pass2Step}
-use Rattle.pass2_statement.specs.declared.Pass2Step.TheVariants.{Went}
 use Rattle.pass2_statement.specs.State.{told, Standing}
 
 -- pass two before the first statement
@@ -32,7 +33,7 @@ pub record Passing (rs src : List ℕ) (n : ℕ) (bs os ws ms : List ℕ) : Type
   pub blank_marks : ms ≡ zeros (length ms)
 
 -- what pass two says of a source, and the buffers that it leaves: every block is closed
-pub record PassedTwo (rs src : List ℕ) (n : ℕ) (bs' os' ws' ms' : List ℕ) (r : Pass2Step) : Type 0 where
+pub record PassedTwo (rs src : List ℕ) (n : ℕ) (bs' os' ws' ms' : List ℕ) (r : Result Pass2State Refusal) : Type 0 where
   pub rule : (ss : List Stmt) → statements src ≡ ok ss → told bs' os' ws' ms' r ≡ pass_two (symbols n rs src) ss pass2_start
-  pub kept : (t : Pass2State) → r ≡ Went t → Standing bs' os' ws' ms' t
-  pub shut : (t : Pass2State) → r ≡ Went t → t.inside ≡ false
+  pub kept : (t : Pass2State) → r ≡ Ok t → Standing bs' os' ws' ms' t
+  pub shut : (t : Pass2State) → r ≡ Ok t → t.inside ≡ false

@@ -4,8 +4,8 @@
 ghost use Rattle.std.specs.Prelude.{◌≡◌};
 ghost use Rattle.pass2.specs.Passing.{fresh, Passing, PassedTwo};
 
-use parse::NextStatement;
-use pass2_statement::{Pass2State, Pass2Step, write_statement};
+use base_refusals::Refusal;
+use pass2_statement::{Pass2State, write_statement};
 
 // Pass two before the first statement.
 fn begin() -> Pass2State
@@ -31,37 +31,20 @@ pub fn pass_two(
     origs: &mut [u32],
     words: &mut [u16],
     marks: &mut [u8],
-) -> Pass2Step
+) -> Result<Pass2State, Refusal>
     requires { Passing rows.now src.now n blocks.old origs.old words.old marks.old }
     ensures { PassedTwo rows.now src.now n blocks.new origs.new words.new marks.new result }
 {
     let mut at = 0;
     let mut t = begin();
-    loop {
-        match parse::next_statement(src, at) {
-            NextStatement::Read(st) => {
-                if pass2_statement::is_known(st, t) {
-                    t = pass2_statement::put_known(words, marks, st, t);
-                    at = st.next;
-                    continue;
-                }
-                let answer = write_statement(src, rows, n, blocks, origs, words, marks, st, t);
-                match answer {
-                    Pass2Step::Went(next) => {
-                        t = next;
-                        at = st.next;
-                    }
-                    _ => {
-                        return answer;
-                    }
-                }
-            }
-            NextStatement::End => {
-                return Pass2Step::Went(t);
-            }
-            NextStatement::Refused { number, start, end } => {
-                return pass2_statement::refused(number, start, end);
-            }
+    // A while: each statement says where the next one begins.
+    while let Some(st) = parse::next_statement(src, at)? {
+        if pass2_statement::is_known(st, t) {
+            t = pass2_statement::put_known(words, marks, st, t);
+        } else {
+            t = write_statement(src, rows, n, blocks, origs, words, marks, st, t)?;
         }
+        at = st.next;
     }
+    Ok(t)
 }

@@ -14,7 +14,7 @@ use Rattle.rules.specs.Buffers.{head_row, sum_of, WordRow}
 use Rattle.rules.proofs.Bools.{never}
 use Rattle.base_rotate.specs.Turned.{turned}
 use Rattle.base_rotate.proofs.Moved.{get-low, get-front, get-back, get-rest}
-use Rattle.pass2_blocks.specs.Rows.{orig_row, view_obj_blocks, row_in}
+use Rattle.pass2_blocks.specs.Rows.{orig_row, view_obj_blocks}
 use Rattle.pass2_blocks.specs.Spots.{ClashAt, FreeAt, Spotted}
 use Rattle.pass2_blocks.specs.declared.Spot.{Spot}
 use Rattle.pass2_blocks.specs.declared.Spot.TheVariants.{Clash, Free}
@@ -102,17 +102,6 @@ places bs os ws ms bs' os' ws' ms' n used a s o₁ o₂ k at r f i =
       };
     }
 
--- mid is where the block's words begin
-pub inserted-at : (bs os ws ms bs' os' ws' ms' : List ℕ) (n k at used a s o₁ o₂ w : ℕ) → w ≡ s → bs' ≡ row_in bs n k a s → os' ≡ row_in os n k o₁ o₂
-    → ws' ≡ turned at (used - w) used ws → ms' ≡ turned at (used - w) used ms → InsertedAt bs os ws ms bs' os' ws' ms' n k at used a s o₁ o₂
-inserted-at bs os ws ms bs' os' ws' ms' n k at used a s o₁ o₂ w e b o x m =
-    record {
-      blocks = b;
-      origs = o;
-      words = x ∙ ap (λ (y : ℕ). turned at (used - y) used ws) e;
-      marks = m ∙ ap (λ (y : ℕ). turned at (used - y) used ms) e;
-    }
-
 -- BY THE SPOT THAT WAS FOUND
 
 clashed : (bs : List ℕ) (n a s k : ℕ) (d : Spot) → Spotted bs n a s d → d ≡ Clash k → ClashAt bs n a s k
@@ -120,9 +109,6 @@ clashed bs n a s k d f e = subst (Spotted bs n a s) e f
 
 freed : (bs : List ℕ) (n a s k at : ℕ) (d : Spot) → Spotted bs n a s d → d ≡ Free k at → FreeAt bs n a s k at
 freed bs n a s k at d f e = subst (Spotted bs n a s) e f
-
-pub clash-row : (bs os ws ms : List ℕ) (n used a s k : ℕ) (d : Spot) → Ready bs os ws ms n used s → Spotted bs n a s d → d ≡ Clash k → k * 2 + 1 < length os
-clash-row bs os ws ms n used a s k d r f e = let c : ClashAt bs n a s k = clashed bs n a s k d f e in omega (arith, c.row, r.room_origs)
 
 pub spot-clashes : (bs os ws ms : List ℕ) (n used a s o₁ o₂ k : ℕ) (d : Spot) (r : Placing) → Spotted bs n a s d → d ≡ Clash k → r ≡ clash_of os k o₁ o₂
     → PlacedAs bs os ws ms bs os ws ms n used a s o₁ o₂ r

@@ -23,5 +23,5 @@ unfoldable pub view_obj_blocks : ℕ → (bs os ws ms : List ℕ) → List ObjBl
 view_obj_blocks n bs os ws ms = tab n (block_row bs os ws ms)
 
 -- a table of n rows of two with the row (a, b) put in at k: written behind them, and turned to its place
-unfoldable pub row_in : List ℕ → (n k a b : ℕ) → List ℕ
+unfoldable pub row_in : {A : Type 0} → List A → (n k : ℕ) → A → A → List A
 row_in t n k a b = turned (k * 2) (n * 2) (n * 2 + 2) (with_row t n a b)

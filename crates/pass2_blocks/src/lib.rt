@@ -7,7 +7,7 @@ ghost use Rattle.pass2_blocks.specs.Rows.{row_in};
 ghost use Rattle.pass2_blocks.specs.Spots.{Spotted};
 ghost use Rattle.pass2_blocks.specs.Placing.{Ready, InsertAt, InsertedAt, clash_of, PlacedAs};
 
-use base_casts::wide16;
+use base_capacities::{BLOCK_CELLS, BLOCK_LENGTH};
 
 // What becomes of a block: it is placed; or it overlaps another, and these are both .orig, the earlier first.
 #[derive(Clone, Copy)]
@@ -28,46 +28,14 @@ pub enum Spot {
     Free { row: usize, at: usize },
 }
 
-fn block_start(blocks: &[u16], k: usize) -> u16
-    requires { k * 2 + 1 < length blocks.now }
-    ensures { result ≡ get_or blocks.now (k * 2) 0 }
-{
-    let i = k * base_capacities::BLOCK_CELLS;
-    blocks[i]
-}
-
-fn block_size(blocks: &[u16], k: usize) -> u16
-    requires { k * 2 + 1 < length blocks.now }
-    ensures { result ≡ get_or blocks.now (k * 2 + 1) 0 }
-{
-    let i = k * base_capacities::BLOCK_CELLS + 1;
-    blocks[i]
-}
-
-fn orig_row_start(origs: &[u32], k: usize) -> u32
-    requires { k * 2 + 1 < length origs.now }
-    ensures { result ≡ get_or origs.now (k * 2) 0 }
-{
-    let i = k * base_capacities::BLOCK_CELLS;
-    origs[i]
-}
-
-fn orig_row_end(origs: &[u32], k: usize) -> u32
-    requires { k * 2 + 1 < length origs.now }
-    ensures { result ≡ get_or origs.now (k * 2 + 1) 0 }
-{
-    let i = k * base_capacities::BLOCK_CELLS + 1;
-    origs[i]
-}
-
 // Each of two blocks starts before the other ends.
 fn ranges_overlap(a: u16, n: u16, b: u16, m: u16) -> bool
     ensures { result ≡ ranges_overlap a n b m }
 {
-    let from = wide16(a);
-    let other_from = wide16(b);
-    let end = from + wide16(n);
-    let other_end = other_from + wide16(m);
+    let from = usize::from(a);
+    let other_from = usize::from(b);
+    let end = from + usize::from(n);
+    let other_end = other_from + usize::from(m);
     (from < other_end) & (other_from < end)
 }
 
@@ -76,38 +44,28 @@ fn find_spot(blocks: &[u16], n: usize, start: u16, size: u16) -> Spot
     requires { (n ≤ 64) × (n * 2 ≤ length blocks.now) }
     ensures { Spotted blocks.now n start size result }
 {
-    let mut k = 0;
     let mut at = 0;
-    while k < n {
-        let other = block_start(blocks, k);
-        let other_size = block_size(blocks, k);
+    for k in 0..n {
+        let other = blocks[k * BLOCK_CELLS];
+        let other_size = blocks[k * BLOCK_CELLS + BLOCK_LENGTH];
         if ranges_overlap(start, size, other, other_size) {
             return Spot::Clash(k);
         }
         if start < other {
             return Spot::Free { row: k, at };
         }
-        at += wide16(other_size);
-        k += 1;
+        at += usize::from(other_size);
     }
-    Spot::Free { row: k, at }
+    Spot::Free { row: n, at }
 }
 
 // The row (a, b) at row k of n rows of two.
-fn row_in_u16(t: &mut [u16], n: usize, k: usize, a: u16, b: u16)
+fn row_in<T: Copy>(t: &mut [T], n: usize, k: usize, a: T, b: T)
     requires { (k ≤ n) × (n * 2 + 2 ≤ length t.old) }
     ensures { t.new ≡ row_in t.old n k a b }
 {
-    base_buffers::row_u16(t, n, a, b);
-    base_rotate::turn_u16(t, k * 2, n * 2, n * 2 + 2);
-}
-
-fn row_in_u32(t: &mut [u32], n: usize, k: usize, a: u32, b: u32)
-    requires { (k ≤ n) × (n * 2 + 2 ≤ length t.old) }
-    ensures { t.new ≡ row_in t.old n k a b }
-{
-    base_buffers::row_u32(t, n, a, b);
-    base_rotate::turn_u32(t, k * 2, n * 2, n * 2 + 2);
+    base_buffers::row(t, n, a, b);
+    base_rotate::turn(t, k * 2, n * 2, n * 2 + 2);
 }
 
 // The .orig of a block, from `from` to `to`, and that of row k, the earlier first.
@@ -115,8 +73,8 @@ fn overlap_with(origs: &[u32], k: usize, from: u32, to: u32) -> Placing
     requires { k * 2 + 1 < length origs.now }
     ensures { result ≡ clash_of origs.now k from to }
 {
-    let other_start = orig_row_start(origs, k);
-    let other_end = orig_row_end(origs, k);
+    let other_start = origs[k * BLOCK_CELLS];
+    let other_end = origs[k * BLOCK_CELLS + 1];
     if from <= other_start {
         return Placing::Overlaps {
             first_start: from,
@@ -151,11 +109,11 @@ fn insert_block(
     requires { InsertAt blocks.old origs.old words.old marks.old n k at used size }
     ensures { InsertedAt blocks.old origs.old words.old marks.old blocks.new origs.new words.new marks.new n k at used start size from to }
 {
-    let mid = used - wide16(size);
-    row_in_u16(blocks, n, k, start, size);
-    row_in_u32(origs, n, k, from, to);
-    base_rotate::turn_u16(words, at, mid, used);
-    base_rotate::turn_u8(marks, at, mid, used);
+    let mid = used - usize::from(size);
+    row_in(blocks, n, k, start, size);
+    row_in(origs, n, k, from, to);
+    base_rotate::turn(words, at, mid, used);
+    base_rotate::turn(marks, at, mid, used);
 }
 
 // The block whose words are the last `size` in use, placed among the n closed ones.

@@ -1,11 +1,19 @@
 -- What each way to a statement's word shows. Assumes nothing.
+use Rattle.isa_fields.specs.declared.OffsetNewErr.{OffsetNewErr}
+use Rattle.isa_fields.specs.declared.OffsetNewErr.TheVariants.{CannotFitSigned}
+use Rattle.std.specs.declared.result.Result.{Result}
+use Rattle.std.specs.declared.result.Result.TheVariants.{Ok, Err}
+use Rattle.std.specs.declared.option.Option as O
+use Rattle.std.specs.declared.option.Option.TheVariants.{Some, None}
+use Rattle.base_refusals.specs.declared.Fault.{Fault}
+use Rattle.base_refusals.specs.Refusals.{fault}
 use mathlib.Core.Path.{◌≡◌, refl, sym, ◌∙◌, ap}
 use mathlib.Core.Bool.{Bool, true, false}
 use mathlib.Core.Option.{Option, none, some}
 use mathlib.Core.List.{List, [], ◌∷◌}
-use Prim.Native.Nat.{ℕ, zero, suc, ◌+◌, ◌-◌, ◌*◌, ◌%◌, ◌≤◌, ◌<◌}
+use Prim.Native.Nat.{ℕ, zero, suc, ◌+◌, ◌*◌, ◌%◌, ◌≤◌}
 use native.Mathlib.Omega.{arith}
-use lib.ListN.{length, get_or}
+use lib.ListN.{get_or}
 use lib.Dec.{eqb}
 use borrow.Author.Tests.{eq-eqb, ne_eqb, eqb-true, eqb-false}
 use Rattle.rules.specs.Base.{when◌then◌else◌, Outcome, ok, refuse, refused, ◌>>=◌, Span, span, nowhere}
@@ -17,26 +25,15 @@ use Rattle.rules.specs.Statements.{Name, Stmt, Target}
 use Rattle.rules.specs.Passes.{Symbol, address, offset_to, words_of}
 use Rattle.rules.specs.Buffers.{lab_from}
 use Rattle.rules.proofs.Bools.{never}
-use Rattle.parse_labels.specs.Names.{name_from}
 use Rattle.isa_fields.specs.Fields.{meant_offset}
-use Rattle.isa_fields.specs.declared.Replaced.{Replaced}
-use Rattle.isa_fields.specs.declared.Replaced.TheVariants.{Offset, OffsetNewErr}
 use Rattle.pass1_symbols.specs.Symbols.{symbol_row, symbols}
 use Rattle.pass1_symbols.specs.Adding.{Found}
-use Rattle.pass1_symbols.specs.declared.Row.{Row}
-use Rattle.pass1_symbols.specs.declared.Row.TheVariants.{At, Nothing}
 use Rattle.parse_rows.specs.declared.Op.{Op}
 use Rattle.parse_rows.specs.declared.Op.TheVariants.{Instr, Orig, Fill, Blkw, Stringz, External}
 use Rattle.parse_rows.specs.declared.Op.TheVariants as op
 use Rattle.parse.specs.declared.Statement.{Statement}
 use Rattle.parse_meaning.specs.Reading.{meant_op, Aimed, Faithful}
-use Rattle.pass2_encode.specs.declared.Worded.{Worded}
-use Rattle.pass2_encode.specs.declared.Worded.TheVariants.{Word, Refused}
-use Rattle.pass2_encode.specs.Worded.{told, label_of, field_of, offset_word, offset_word_to, address_word, Able, Aiming, Ready}
-
--- THE LABEL'S ROW
-pub row-found : (rs src : List ℕ) (n : ℕ) (st : Statement) (s l : ℕ) → s ≡ st.label_start → l ≡ st.label_end - st.label_start → (r : Row) → Found n rs src (name_from src s l) r → Found n rs src (label_of src st).text r
-row-found rs src n st s l x y r h = rw (x, y) at h
+use Rattle.pass2_encode.specs.Worded.{told, label_of, field_of, offset_word, offset_word_to, address_word, Aiming, Ready}
 
 -- THE OFFSET, whatever its place
 module _ (f : Range) (l n : ℕ) (p : Span) where
@@ -64,36 +61,33 @@ far-of : (r : ℕ) → (r ≡ 512 → ⊥) → field_of r ≡ signed 11
 unfolding when◌then◌else◌
 far-of r e = rw (ne_eqb r 512 e)
 
-module _ (st : Statement) (l n : ℕ) (z : Replaced) where
+module _ (st : Statement) (l n : ℕ) (z : Result ℕ OffsetNewErr) where
   abbrev Spot : Span
   Spot = span st.label_start st.label_end
 
-  offset-given : (f : Range) → field_of st.reach ≡ f → meant_offset z ≡ reach f l n nowhere → (d : ℕ) → z ≡ Offset d → (w : ℕ) → w ≡ st.bits + field f d → told (Word w) ≡ offset_word st l n
+  offset-given : (f : Range) → field_of st.reach ≡ f → meant_offset z ≡ reach f l n nowhere → (d : ℕ) → z ≡ Ok d → (w : ℕ) → w ≡ st.bits + field f d → told (Ok w) ≡ offset_word st l n
   unfolding offset_word
   offset-given f u h d q w e = let v = reached f l n Spot d (sym (ap meant_offset q) ∙ h) in rw (u, v, e)
 
-  offset-refused : (f : Range) → field_of st.reach ≡ f → meant_offset z ≡ reach f l n nowhere → z ≡ OffsetNewErr → (r : Worded) → r ≡ Refused 29 st.label_start st.label_end → told r ≡ offset_word st l n
+  offset-refused : (f : Range) → field_of st.reach ≡ f → meant_offset z ≡ reach f l n nowhere → z ≡ Err CannotFitSigned → (r : Result ℕ Fault) → r ≡ Err (fault 29 st.label_start st.label_end) → told r ≡ offset_word st l n
   unfolding offset_word
   offset-refused f u h q r e = let v = unreached f l n Spot (sym (ap meant_offset q) ∙ h) in rw (u, v, e)
 
   module _ (s : st.reach ≡ 512) (h : meant_offset z ≡ reach (signed 9) l n nowhere) where
-    pub near_word : (d : ℕ) → z ≡ Offset d → (b : ℕ) → b ≡ d % 512 → (w : ℕ) → w ≡ st.bits + b → told (Word w) ≡ offset_word st l n
+    pub near_word : (d : ℕ) → z ≡ Ok d → (b : ℕ) → b ≡ d % 512 → (w : ℕ) → w ≡ st.bits + b → told (Ok w) ≡ offset_word st l n
     unfolding field
     near_word d q b y w e = offset-given (signed 9) (near_of st.reach s) h d q w (rw y at e)
 
-    pub near-refused : z ≡ OffsetNewErr → (r : Worded) → r ≡ Refused 29 st.label_start st.label_end → told r ≡ offset_word st l n
+    pub near-refused : z ≡ Err CannotFitSigned → (r : Result ℕ Fault) → r ≡ Err (fault 29 st.label_start st.label_end) → told r ≡ offset_word st l n
     near-refused q r e = offset-refused (signed 9) (near_of st.reach s) h q r e
 
   module _ (s : st.reach ≡ 512 → ⊥) (h : meant_offset z ≡ reach (signed 11) l n nowhere) where
-    pub far-word : (d : ℕ) → z ≡ Offset d → (b : ℕ) → b ≡ d % 2048 → (w : ℕ) → w ≡ st.bits + b → told (Word w) ≡ offset_word st l n
+    pub far-word : (d : ℕ) → z ≡ Ok d → (b : ℕ) → b ≡ d % 2048 → (w : ℕ) → w ≡ st.bits + b → told (Ok w) ≡ offset_word st l n
     unfolding field
     far-word d q b y w e = offset-given (signed 11) (far-of st.reach s) h d q w (rw y at e)
 
-    pub far-refused : z ≡ OffsetNewErr → (r : Worded) → r ≡ Refused 29 st.label_start st.label_end → told r ≡ offset_word st l n
+    pub far-refused : z ≡ Err CannotFitSigned → (r : Result ℕ Fault) → r ≡ Err (fault 29 st.label_start st.label_end) → told r ≡ offset_word st l n
     far-refused q r e = offset-refused (signed 11) (far-of st.reach s) h q r e
-
-pub far-low : (st : Statement) → Able st → (st.reach ≡ 512 → ⊥) → (b d : ℕ) → b ≡ d % 2048 → st.bits + b < 65536
-far-low st h s b d e = let z = h.long s in omega (arith, h.low)
 
 -- THE RULES, by what the table says of the label
 abbrev by_lab : Lab → ℕ → Target → Outcome ℕ
@@ -149,7 +143,7 @@ unfolding offset_word
 flat-offset st src a d = joined st (reach (field_of st.reach) a d (span st.label_start st.label_end))
 
 -- THE LABEL
-module _ (rs src : List ℕ) (n : ℕ) (st : Statement) (v : Aiming rs src n st) (r : Row) (h : Found n rs src (label_of src st).text r) where
+module _ (rs src : List ℕ) (n : ℕ) (st : Statement) (v : Aiming rs src n st) (r : O.Option ℕ) (h : Found n rs src (label_of src st).text r) where
   abbrev Aim : Target
   Aim = record { field = field_of st.reach; name = label_of src st }
 
@@ -161,15 +155,9 @@ module _ (rs src : List ℕ) (n : ℕ) (st : Statement) (v : Aiming rs src n st)
   unfolding address_word
   address-told o e = ap (λ (y : Outcome ℕ). y >>= λ x. ok (word x ∷ [])) (address-by (symbols n rs src) (label_of src st) ∙ ap (λ (y : Option Symbol). address_by y (label_of src st)) e)
 
-  module _ (k : ℕ) (q : r ≡ At k) where
-    pub row-in : k * 4 + 4 ≤ length rs
-    row-in = omega (arith, (h.row k q).0, v.table.few, v.table.room)
-
+  module _ (k : ℕ) (q : r ≡ Some k) where
     first : k * 4 + 0 ≡ k * 4
     first = omega arith
-
-    pub address-low : (x : ℕ) → x ≡ get_or rs (k * 4 + 0) 0 → x < 65536
-    address-low x e = let u = (v.table.rows k (h.row k q).0).address in let w : x ≡ get_or rs (k * 4) 0 = rw first at e in omega arith
 
     says : look name_order (symbols n rs src) (label_of src st).text ≡ some (symbol_row rs src k).1
     says = rw q at (sym h.says)
@@ -180,26 +168,26 @@ module _ (rs src : List ℕ) (n : ℕ) (st : Statement) (v : Aiming rs src n st)
         let j = lab-defined (get_or rs (k * 4) 0) (get_or rs (k * 4 + 1) 0) (sym e ∙ z) in
         (u ∙ ap (offset_word st l) x) ∙ (rw (← i) (flat-offset st src l d) ∙ (ap (λ (m : Lab). by_lab m d Aim >>= λ x. ok (word (st.bits + x) ∷ [])) (sym j) ∙ sym (offset-told d _ says)))
 
-    pub to-external : (f d : ℕ) → f ≡ get_or rs (k * 4 + 1) 0 → (f ≡ 0 → ⊥) → (w : Worded) → w ≡ Refused 30 st.label_start st.label_end → told w ≡ offset_word_to (symbols n rs src) src st d
+    pub to-external : (f d : ℕ) → f ≡ get_or rs (k * 4 + 1) 0 → (f ≡ 0 → ⊥) → (w : Result ℕ Fault) → w ≡ Err (fault 30 st.label_start st.label_end) → told w ≡ offset_word_to (symbols n rs src) src st d
     to-external f d e z w u =
         let j = lab-outer (get_or rs (k * 4) 0) (get_or rs (k * 4 + 1) 0) (λ x. z (e ∙ x)) in
         ap told u ∙ (ap (λ (m : Lab). by_lab m d Aim >>= λ x. ok (word (st.bits + x) ∷ [])) (sym j) ∙ sym (offset-told d _ says))
 
-    pub to-address : (a : ℕ) → a ≡ get_or rs (k * 4 + 0) 0 → (w : ℕ) → w ≡ a → told (Word w) ≡ address_word (symbols n rs src) src st
+    pub to-address : (a : ℕ) → a ≡ get_or rs (k * 4 + 0) 0 → (w : ℕ) → w ≡ a → told (Ok w) ≡ address_word (symbols n rs src) src st
     to-address a e w u =
         let c = v.table.rows k (h.row k q).0 in
         let i : w ≡ get_or rs (k * 4) 0 = rw first at (u ∙ e) in
         let j = address-of (get_or rs (k * 4) 0) (get_or rs (k * 4 + 1) 0) c.outside c.flag in
-        ap (λ (x : ℕ). told (Word x)) (i ∙ sym j) ∙ sym (address-told _ says)
+        ap (λ (x : ℕ). told (Ok x)) (i ∙ sym j) ∙ sym (address-told _ says)
 
-  module _ (q : r ≡ Nothing) where
+  module _ (q : r ≡ None) where
     unsaid : look name_order (symbols n rs src) (label_of src st).text ≡ none
     unsaid = rw q at (sym h.says)
 
-    pub to-nothing : (d : ℕ) (w : Worded) → w ≡ Refused 31 st.label_start st.label_end → told w ≡ offset_word_to (symbols n rs src) src st d
+    pub to-nothing : (d : ℕ) (w : Result ℕ Fault) → w ≡ Err (fault 31 st.label_start st.label_end) → told w ≡ offset_word_to (symbols n rs src) src st d
     to-nothing d w u = ap told u ∙ sym (offset-told d none unsaid)
 
-    pub no_address : (w : Worded) → w ≡ Refused 31 st.label_start st.label_end → told w ≡ address_word (symbols n rs src) src st
+    pub no_address : (w : Result ℕ Fault) → w ≡ Err (fault 31 st.label_start st.label_end) → told w ≡ address_word (symbols n rs src) src st
     no_address w u = ap told u ∙ sym (address-told none unsaid)
 
 -- THE STATEMENT'S WORD
@@ -256,12 +244,6 @@ instr-meant External e = never cc
 
 module _ (rs src : List ℕ) (n : ℕ) (st : Statement) (v : Ready rs src n st) where
   module _ (z : st.reach ≡ 0 → ⊥) where
-    pub aiming : Aiming rs src n st
-    aiming = record { table = v.table; size = v.size; between = v.between z }
-
-    pub able : Able st
-    able = record { low = v.low; long = v.long z }
-
     pub instr-aimed : (a : ℕ) (w : Outcome (List Cell)) → w ≡ offset_word_to (symbols n rs src) src st (a + 1) → (at : ℕ) (s : Stmt) → Faithful src at st s → s.op ≡ instr → w ≡ words_of (symbols n rs src) a instr s
     unfolding offset_word_to
     instr-aimed a w e at s f o =
@@ -276,8 +258,8 @@ module _ (rs src : List ℕ) (n : ℕ) (st : Statement) (v : Ready rs src n st) 
         e ∙ sym (fill-some (symbols n rs src) a s x.target x.is ∙ rw x.name)
 
   module _ (z : st.reach ≡ 0) (w : ℕ) (e : w ≡ st.bits) where
-    pub instr-bare : (a : ℕ) (at : ℕ) (s : Stmt) → Faithful src at st s → told (Word w) ≡ words_of (symbols n rs src) a instr s
-    instr-bare a at s f = ap (λ (x : ℕ). told (Word x)) (e ∙ sym f.bits) ∙ sym (instr-none (symbols n rs src) a s (f.bare z))
+    pub instr-bare : (a : ℕ) (at : ℕ) (s : Stmt) → Faithful src at st s → told (Ok w) ≡ words_of (symbols n rs src) a instr s
+    instr-bare a at s f = ap (λ (x : ℕ). told (Ok x)) (e ∙ sym f.bits) ∙ sym (instr-none (symbols n rs src) a s (f.bare z))
 
-    pub fill-bare : (at : ℕ) (s : Stmt) → Faithful src at st s → (a : ℕ) → told (Word w) ≡ words_of (symbols n rs src) a fill s
-    fill-bare at s f a = ap (λ (x : ℕ). told (Word x)) (e ∙ sym f.bits) ∙ sym (fill_none (symbols n rs src) a s (f.bare z))
+    pub fill-bare : (at : ℕ) (s : Stmt) → Faithful src at st s → (a : ℕ) → told (Ok w) ≡ words_of (symbols n rs src) a fill s
+    fill-bare at s f a = ap (λ (x : ℕ). told (Ok x)) (e ∙ sym f.bits) ∙ sym (fill_none (symbols n rs src) a s (f.bare z))

@@ -1,4 +1,8 @@
 -- The word of a statement as the rules' `words_of` gives it, from what the code's statement holds. Assumes nothing.
+use Rattle.std.specs.declared.result.Result.{Result}
+use Rattle.std.specs.declared.result.Result.TheVariants.{Ok, Err}
+use Rattle.base_refusals.specs.declared.Fault.{Fault}
+use Rattle.base_refusals.specs.Refusals.{fault}
 use Rattle.std.specs.Prelude.{◌≡◌, List, [], ◌∷◌, ℕ, ◌+◌, ◌-◌, ◌≤◌, ◌<◌, length, eqb}
 use Rattle.rules.specs.Base.{when◌then◌else◌, Outcome, ok, refuse, ◌>>=◌, span}
 use Rattle.rules.specs.Words.{Range, signed, reach, field}
@@ -10,13 +14,11 @@ use Rattle.rules.specs.Passes.{Symbol, address, offset_to}
 use Rattle.parse_labels.specs.Names.{name_between, Between}
 use Rattle.pass1_symbols.specs.Symbols.{Growing}
 use Rattle.parse.specs.declared.Statement.{Statement}
-use Rattle.pass2_encode.specs.declared.Worded.{Worded}
-use Rattle.pass2_encode.specs.declared.Worded.TheVariants.{Word, Refused}
 
 -- what an answer stands for
-abbrev pub told : Worded → Outcome (List Cell)
-told (Word w) = ok (word w ∷ [])
-told (Refused n a e) = refuse n (span a e)
+abbrev pub told : Result ℕ Fault → Outcome (List Cell)
+told (Ok w) = ok (word w ∷ [])
+told (Err f) = refuse f.number (span f.start f.end)
 
 -- the label operand's name
 abbrev pub label_of : List ℕ → Statement → Name

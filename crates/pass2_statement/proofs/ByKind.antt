@@ -1,4 +1,7 @@
 -- What each kind of statement shows in pass two. Assumes nothing.
+use Rattle.base_refusals.specs.declared.Refusal.{Refusal}
+use Rattle.std.specs.declared.result.Result.{Result}
+use Rattle.std.specs.declared.result.Result.TheVariants.{Ok, Err}
 use mathlib.Core.Path.{◌≡◌, refl, sym, ◌∙◌, ap}
 use mathlib.Core.Option.{some}
 use mathlib.Core.List.{List, []}
@@ -21,9 +24,7 @@ use Rattle.parse.specs.declared.Statement.{Statement}
 use Rattle.pass1_symbols.specs.Symbols.{symbols}
 use Rattle.parse_meaning.specs.Reading.{meant_op, Faithful}
 use Rattle.pass2_statement.specs.declared.Pass2State.{Pass2State}
-use Rattle.pass2_statement.specs.declared.Pass2Step.{Pass2Step}
-use Rattle.pass2_statement.specs.declared.Pass2Step.TheVariants.{Went}
-use Rattle.pass2_statement.specs.State.{view_pass2, Stepping, opening, Emits, Begins, Ends, Writes}
+use Rattle.pass2_statement.specs.State.{view_pass2, Stepping, opening, Emits, Writes}
 use Rattle.pass2_statement.proofs.Emitting.{went}
 
 -- THE RULE
@@ -56,17 +57,6 @@ module _ (rs src : List ℕ) (n : ℕ) (bs os ws ms : List ℕ) (st : Statement)
     small = v.small;
   }
 
-  pub writes-begins : st.op ≡ Orig → Begins st t
-  writes-begins e = record {
-    fresh = v.fresh e;
-    bits = omega (arith, v.ready.low);
-    start = omega (arith, v.ready.size, v.rising, v.within);
-    end = omega (arith, v.ready.size, v.within);
-  }
-
-  pub writes-ends : st.op ≡ op.End → Ends bs os ws ms t
-  writes-ends e = record { standing = v.standing; small = v.small; few = v.few e }
-
   module _ (at : ℕ) (s : Stmt) (f : Faithful src at st s) where
     abbrev ss : Table Name Symbol
     ss = symbols n rs src
@@ -78,7 +68,7 @@ module _ (rs src : List ℕ) (n : ℕ) (bs os ws ms : List ℕ) (st : Statement)
     rule-of o e = ap (λ (x : words.Op). written ss x s (view_pass2 bs os ws ms t)) (sym (f.op ∙ ap meant_op e))
 
     -- words
-    module _ (ws' ms' : List ℕ) (r : Pass2Step) (h : Stepping bs os ws' ms' (emit ss s (view_pass2 bs os ws ms t)) r) where
+    module _ (ws' ms' : List ℕ) (r : Result Pass2State Refusal) (h : Stepping bs os ws' ms' (emit ss s (view_pass2 bs os ws ms t)) r) where
       as-emitted : (o : Op) → st.op ≡ o → written ss (meant_op o) s (view_pass2 bs os ws ms t) ≡ emit ss s (view_pass2 bs os ws ms t) → Stepping bs os ws' ms' Rule r
       as-emitted o e q = let y : emit ss s (view_pass2 bs os ws ms t) ≡ Rule = sym q ∙ rule-of o e in rw y at h
 
@@ -94,7 +84,7 @@ module _ (rs src : List ℕ) (n : ℕ) (bs os ws ms : List ℕ) (st : Statement)
       pub string-written : st.op ≡ Stringz → Stepping bs os ws' ms' Rule r
       string-written e = as-emitted Stringz e (written-words ss s _).3
 
-    pub orig-written : st.op ≡ Orig → (t' : Pass2State) → t' ≡ opening t st.bits st.start st.end → Stepping bs os ws ms Rule (Went t')
+    pub orig-written : st.op ≡ Orig → (t' : Pass2State) → t' ≡ opening t st.bits st.start st.end → Stepping bs os ws ms Rule (Ok t')
     orig-written e t' q =
         let k = v.standing in
         let i = v.fresh e in
@@ -103,8 +93,8 @@ module _ (rs src : List ℕ) (n : ℕ) (bs os ws ms : List ℕ) (st : Statement)
         (record { few = k.few; room = k.room; room_origs = k.room_origs; sum = k.sum; within = k.within; shut = λ d. (never cc); words = k.words; marks = k.marks; rows = k.rows; clear = k.clear; clear_blocks = k.clear_blocks; clear_origs = k.clear_origs })
         (sym (sym (rule-of Orig e) ∙ (written-orig ss s _ ∙ λ z. ok (pass2_state (some (obj_block (f.bits z) (c z) (f.place z))) (view_obj_blocks t.blocks bs os ws ms))))))
 
-    pub end-written : st.op ≡ op.End → (bs' os' ws' ms' : List ℕ) (r : Pass2Step) → Stepping bs' os' ws' ms' (finish (view_pass2 bs os ws ms t)) r → Stepping bs' os' ws' ms' Rule r
+    pub end-written : st.op ≡ op.End → (bs' os' ws' ms' : List ℕ) (r : Result Pass2State Refusal) → Stepping bs' os' ws' ms' (finish (view_pass2 bs os ws ms t)) r → Stepping bs' os' ws' ms' Rule r
     end-written e bs' os' ws' ms' r h = let y : finish (view_pass2 bs os ws ms t) ≡ Rule = sym (written-end ss s _) ∙ rule-of op.End e in rw y at h
 
-    pub external-written : st.op ≡ External → Stepping bs os ws ms Rule (Went t)
+    pub external-written : st.op ≡ External → Stepping bs os ws ms Rule (Ok t)
     external-written e = went bs os ws ms _ t v.standing (sym (sym (rule-of External e) ∙ written-external ss s _))

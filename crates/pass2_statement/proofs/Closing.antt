@@ -1,4 +1,7 @@
 -- What each way through an .orig and an .end shows. Assumes nothing.
+use Rattle.base_refusals.specs.declared.Refusal.{Refusal}
+use Rattle.std.specs.declared.result.Result.{Result}
+use Rattle.std.specs.declared.result.Result.TheVariants.{Ok, Err}
 use mathlib.Core.Path.{◌≡◌, refl, sym, ◌∙◌, ap}
 use mathlib.Core.Bool.{true, false}
 use mathlib.Core.Option.{none, some}
@@ -17,24 +20,11 @@ use Rattle.pass2_blocks.specs.Placing as order
 use Rattle.pass2_blocks.specs.declared.Placing.{Placing}
 use Rattle.pass2_blocks.specs.declared.Placing.TheVariants as placing
 use Rattle.pass2_blocks.proofs.Placed.{cells-long}
-use Rattle.parse.specs.declared.Statement.{Statement}
 use Rattle.pass2_statement.specs.declared.Pass2State.{Pass2State}
-use Rattle.pass2_statement.specs.declared.Pass2Step.{Pass2Step}
-use Rattle.pass2_statement.specs.declared.Pass2Step.TheVariants.{Went, Refused}
-use Rattle.pass2_statement.specs.State.{opened, view_pass2, Standing, Stepping, opening, closing, close_of, Ends}
+use Rattle.pass2_statement.specs.State.{opened, view_pass2, Standing, Stepping, closing, close_of, Ends}
 use Rattle.pass2_statement.proofs.Emitting.{went, stuck}
 
 -- AN ORIG
-pub begun : (st : Statement) (t : Pass2State) (s a e : ℕ) (r : Pass2State) → s ≡ st.bits → a ≡ st.start → e ≡ st.end → r ≡ opening t s a e → r ≡ opening t st.bits st.start st.end
-begun st t s a e r x y z q = rw (x, y, z) at q
-
--- THE ANSWER TO PLACING AS A STEP
-module _ (t : Pass2State) (z : Placing) where
-  pub close-placed : (r : Pass2State) → z ≡ placing.Placed → r ≡ closing t (t.blocks + 1) → Went r ≡ close_of t z
-  close-placed r q e = rw (q, e)
-
-  pub close-overlaps : (a b c d a' b' c' d' : ℕ) → z ≡ placing.Overlaps a b c d → a' ≡ a → b' ≡ b → c' ≡ c → d' ≡ d → Refused (refusal 28 a' b' c' d') ≡ close_of t z
-  close-overlaps a b c d a' b' c' d' q e f g h = rw (q, e, f, g, h)
 
 -- THE RULE
 finish-none : (bl : List ObjBlock) → finish (pass2_state none bl) ≡ ok (pass2_state none bl)
@@ -59,14 +49,14 @@ module _ (bs os ws ms : List ℕ) (t : Pass2State) (v : Ends bs os ws ms t) wher
   k : Standing bs os ws ms t
   k = v.standing
 
-  pub finish-outside : t.inside ≡ false → Stepping bs os ws ms (finish (view_pass2 bs os ws ms t)) (Went t)
+  pub finish-outside : t.inside ≡ false → Stepping bs os ws ms (finish (view_pass2 bs os ws ms t)) (Ok t)
   finish-outside i = went bs os ws ms _ t k (rw i (sym (finish-none (view_obj_blocks t.blocks bs os ws ms))))
 
   module _ (i : t.inside ≡ true) where
     long : length (cells_at ws ms t.base (t.used - t.base)) ≡ t.used - t.base
     long = cells-long ws ms t.base (t.used - t.base)
 
-    pub finish-dropped : t.used - t.base ≡ 0 → (t' : Pass2State) → t' ≡ closing t t.blocks → Stepping bs os ws ms (finish (view_pass2 bs os ws ms t)) (Went t')
+    pub finish-dropped : t.used - t.base ≡ 0 → (t' : Pass2State) → t' ≡ closing t t.blocks → Stepping bs os ws ms (finish (view_pass2 bs os ws ms t)) (Ok t')
     finish-dropped z t' q = rw q (went bs os ws ms _ (closing t t.blocks)
         (record { few = k.few; room = k.room; room_origs = k.room_origs; sum = omega (arith, k.sum, k.within); within = omega arith; shut = λ e. refl; words = k.words; marks = k.marks; rows = k.rows; clear = k.clear; clear_blocks = k.clear_blocks; clear_origs = k.clear_origs })
         (rw i (sym (finish-empty (opened ws ms t) (view_obj_blocks t.blocks bs os ws ms) (long ∙ z)))))
@@ -76,17 +66,7 @@ module _ (bs os ws ms : List ℕ) (t : Pass2State) (v : Ends bs os ws ms t) wher
       few-left = v.few i (omega (arith, z))
 
       module _ (a b : ℕ) (x : a ≡ t.used - t.base) (y : b ≡ a) where
-        pub placing-ready : Ready bs os ws ms t.blocks t.used b
-        placing-ready = let f = few-left in record {
-          few = f;
-          room = omega (arith, k.room);
-          room_origs = omega (arith, k.room_origs);
-          words = k.words;
-          marks = k.marks;
-          sum = omega (arith, k.sum, k.within);
-        }
-
-        pub finish-placed : (bs' os' ws' ms' : List ℕ) → length bs' ≡ length bs → length os' ≡ length os → length ws' ≡ length ws → length ms' ≡ length ms → (p : Placing) → PlacedAs bs os ws ms bs' os' ws' ms' t.blocks t.used t.start b t.orig_start t.orig_end p → (r : Pass2Step) → r ≡ close_of t p → Stepping bs' os' ws' ms' (finish (view_pass2 bs os ws ms t)) r
+        pub finish-placed : (bs' os' ws' ms' : List ℕ) → length bs' ≡ length bs → length os' ≡ length os → length ws' ≡ length ws → length ms' ≡ length ms → (p : Placing) → PlacedAs bs os ws ms bs' os' ws' ms' t.blocks t.used t.start b t.orig_start t.orig_end p → (r : Result Pass2State Refusal) → r ≡ close_of t p → Stepping bs' os' ws' ms' (finish (view_pass2 bs os ws ms t)) r
         finish-placed bs' os' ws' ms' lb lo lw lm p h r q = rw q (go p refl)
           where
             base-is : t.used - b ≡ t.base

@@ -1,9 +1,13 @@
 -- What each way through a statement's words shows. Assumes nothing.
+use Rattle.std.specs.declared.result.Result.{Result}
+use Rattle.std.specs.declared.result.Result.TheVariants.{Ok, Err}
+use Rattle.base_refusals.specs.declared.Fault.{Fault}
+use Rattle.base_refusals.specs.Refusals.{fault}
 use mathlib.Core.Path.{◌≡◌, refl, sym, ◌∙◌, ap}
 use mathlib.Core.Bool.{true, false}
 use mathlib.Core.Option.{none, some}
 use mathlib.Core.List.{List, ◌++◌}
-use Prim.Native.Nat.{ℕ, ◌+◌, ◌-◌, ◌<◌}
+use Prim.Native.Nat.{ℕ, ◌+◌, ◌-◌}
 use native.Mathlib.Omega.{arith}
 use lib.ListN.{length}
 use Rattle.rules.specs.Base.{Outcome, ok, refuse, ◌>>=◌, span}
@@ -21,31 +25,18 @@ use Rattle.pass2_blocks.proofs.Placed.{cells-long}
 use Rattle.parse.specs.declared.Statement.{Statement}
 use Rattle.pass1_symbols.specs.Symbols.{symbols}
 use Rattle.parse_meaning.specs.Reading.{Faithful}
-use Rattle.pass2_words.specs.declared.Written.{Written}
-use Rattle.pass2_words.specs.declared.Written.TheVariants.{Upto}
-use Rattle.pass2_words.specs.declared.Written.TheVariants as written
-use Rattle.pass2_words.specs.Writing.{Wrote, WroteAs, size_at, Roomy}
+use Rattle.pass2_words.specs.Writing.{Wrote, WroteAs, size_at}
 use Rattle.pass2_words.proofs.Statements.{size_is}
 use Rattle.pass2_statement.specs.declared.Pass2State.{Pass2State}
-use Rattle.pass2_statement.specs.declared.Pass2Step.{Pass2Step}
-use Rattle.pass2_statement.specs.declared.Pass2Step.TheVariants.{Went, Refused}
 use Rattle.pass2_statement.specs.State.{open_of, opened, view_pass2, Standing, Stepping, with_used, step_of, Emits}
 use Rattle.pass2_statement.proofs.Views.{view-same, cells-behind, rows_behind, clear_behind}
 
 -- a step that went, and one that was refused
-pub went : (bs os ws ms : List ℕ) (o : Outcome rule.Pass2State) (t : Pass2State) → Standing bs os ws ms t → ok (view_pass2 bs os ws ms t) ≡ o → Stepping bs os ws ms o (Went t)
+pub went : (bs os ws ms : List ℕ) (o : Outcome rule.Pass2State) (t : Pass2State) → Standing bs os ws ms t → ok (view_pass2 bs os ws ms t) ≡ o → Stepping bs os ws ms o (Ok t)
 went bs os ws ms o t k e = record { rule = e; kept = λ z q. (let w : t ≡ z = cc in rw w at k) }
 
-pub stuck : (bs os ws ms : List ℕ) (o : Outcome rule.Pass2State) (f : Refusal) → refused_by f ≡ o → Stepping bs os ws ms o (Refused f)
+pub stuck : (bs os ws ms : List ℕ) (o : Outcome rule.Pass2State) (f : Refusal) → refused_by f ≡ o → Stepping bs os ws ms o (Err f)
 stuck bs os ws ms o f q = record { rule = q; kept = λ z w. (never cc) }
-
--- AN ANSWER AS A STEP
-module _ (t : Pass2State) (z : Written) where
-  pub step_went : (u : ℕ) (t' : Pass2State) → z ≡ Upto u → t' ≡ with_used t u → Went t' ≡ step_of t z
-  step_went u t' q e = rw (q, e)
-
-  pub step-refused : (n a e : ℕ) (r : Pass2Step) → z ≡ written.Refused n a e → r ≡ Refused (refusal_at n a e) → r ≡ step_of t z
-  step-refused n a e r q h = rw (q, h)
 
 -- THE RULE
 emit-outside : (ss : Table Name Symbol) (s : Stmt) (bl : List ObjBlock) → emit ss s (pass2_state none bl) ≡ refuse 21 s.place
@@ -57,14 +48,11 @@ unfolding emit
 emit-inside ss s x bl = refl
 
 module _ (rs src : List ℕ) (n : ℕ) (ws ms : List ℕ) (st : Statement) (t : Pass2State) (v : Emits rs src n ws ms st t) where
-  pub emit-room : t.inside ≡ true → (a b : ℕ) → a ≡ t.used - t.base → (b ≡ t.start) × (b < 65536) → Roomy rs src n ws ms st t.used (b + a)
-  emit-room i a b e h = rw (e, h.0) (v.roomy i)
-
   module _ (bs os : List ℕ) (at : ℕ) (s : Stmt) (k : Standing bs os ws ms t) (f : Faithful src at st s) where
     abbrev ss : Table Name Symbol
     ss = symbols n rs src
 
-    pub emit-none : t.inside ≡ false → (r : Pass2Step) → r ≡ Refused (refusal_at 21 st.start st.end) → Stepping bs os ws ms (emit ss s (view_pass2 bs os ws ms t)) r
+    pub emit-none : t.inside ≡ false → (r : Result Pass2State Refusal) → r ≡ Err (refusal_at 21 st.start st.end) → Stepping bs os ws ms (emit ss s (view_pass2 bs os ws ms t)) r
     emit-none i r q = rw q (stuck bs os ws ms _ (refusal_at 21 st.start st.end) (rw i (rw (← f.place) (sym (emit-outside ss s (view_obj_blocks t.blocks bs os ws ms))))))
 
     module _ (i : t.inside ≡ true) (ws' ms' : List ℕ) (l : length ws' ≡ length ws) (m : length ms' ≡ length ms) where
@@ -107,18 +95,18 @@ module _ (rs src : List ℕ) (n : ℕ) (ws ms : List ℕ) (st : Statement) (t : 
             let b = view-same ws ms ws' ms' t.used w.words_before w.marks_before bs os t.blocks (omega (arith, k.sum, k.within)) in
             (λ z. ok (pass2_state (open_of (i z) (obj_block t.start (a z) (span t.orig_start t.orig_end))) (b z))) ∙ sym (emit-is (ok cs) e)
 
-      pub emit-some : (a b : ℕ) → a ≡ t.used - t.base → (b ≡ t.start) × (b < 65536) → (z : Written) → WroteAs (words_of ss (b + a) s.op s) ws ms ws' ms' t.used z → (r : Pass2Step) → r ≡ step_of t z → Stepping bs os ws' ms' (emit ss s (view_pass2 bs os ws ms t)) r
+      pub emit-some : (a b : ℕ) → a ≡ t.used - t.base → b ≡ t.start → (z : Result ℕ Fault) → WroteAs (words_of ss (b + a) s.op s) ws ms ws' ms' t.used z → (r : Result Pass2State Refusal) → r ≡ step_of t z → Stepping bs os ws' ms' (emit ss s (view_pass2 bs os ws ms t)) r
       emit-some a b d g z h r q = rw q (go z refl)
         where
           at_here : b + a ≡ here
-          at_here = here-is (b + a) (λ x. g.0 x + d x)
+          at_here = here-is (b + a) (λ x. g x + d x)
 
           words-at : (o : Outcome (List Cell)) → words_of ss (b + a) s.op s ≡ o → words_of ss here s.op s ≡ o
           words-at o e = rw at_here at e
 
-          go : (y : Written) → z ≡ y → Stepping bs os ws' ms' (emit ss s (view_pass2 bs os ws ms t)) (step_of t y)
-          go (Upto u) e =
+          go : (y : Result ℕ Fault) → z ≡ y → Stepping bs os ws' ms' (emit ss s (view_pass2 bs os ws ms t)) (step_of t y)
+          go (Ok u) e =
               let x = h.went u e in
               let w = words-at _ x.is in
               went bs os ws' ms' _ (with_used t u) (still u x.cells w x.upto x.wrote) (same u x.cells w x.upto x.wrote)
-          go (written.Refused c p x) e = stuck bs os ws' ms' _ (refusal_at c p x) (sym (emit-is (refuse c (span p x)) (words-at _ (h.stuck c p x e))))
+          go (Err c) e = stuck bs os ws' ms' _ (refusal_at c.number c.start c.end) (sym (emit-is (refuse c.number (span c.start c.end)) (words-at _ (h.stuck c e))))

@@ -1,4 +1,5 @@
 -- A statement whose word is known: written behind those of the open block, it is what the rules write. Assumes nothing.
+use Rattle.std.specs.declared.result.Result.TheVariants.{Ok, Err}
 use mathlib.Core.Path.{◌≡◌, refl, sym, ◌∙◌, ap}
 use mathlib.Core.Bool.{Bool, true, ◌&&◌}
 use mathlib.Core.List.{List, [], ◌∷◌}
@@ -19,20 +20,14 @@ use Rattle.parse_rows.specs.declared.Op.TheVariants.{Instr, Orig, Fill, Blkw, St
 use Rattle.parse_rows.specs.declared.Op.TheVariants as op
 use Rattle.parse_meaning.specs.Reading.{meant_op, chars_at, Faithful}
 use Rattle.pass1_symbols.specs.Symbols.{symbols}
-use Rattle.pass2_encode.specs.declared.Worded.TheVariants.{Word}
 use Rattle.pass2_encode.specs.Worded.{told}
 use Rattle.pass2_encode.proofs.Wording.{instr-bare, fill-bare}
-use Rattle.pass2_words.specs.declared.Written.TheVariants.{Upto}
 use Rattle.pass2_words.specs.Writing.{Wrote, Room, size_by, size_at}
 use Rattle.pass2_words.proofs.Cells.{answer_word}
 use Rattle.pass2_statement.specs.declared.Pass2State.{Pass2State}
-use Rattle.pass2_statement.specs.declared.Pass2Step.TheVariants.{Went}
 use Rattle.pass2_statement.specs.State.{view_pass2, Stepping, with_used, one_word, known, Writes}
 use Rattle.pass2_statement.proofs.Emitting.{emit-some}
 use Rattle.pass2_statement.proofs.ByKind.{writes-emits, instr-written, fill-written}
-
-pub known_wrote : (ws ms ws' ms' : List ℕ) (used b : ℕ) {w : ℕ} → w ≡ b → Wrote ws ms ws' ms' used (word w ∷ []) → Wrote ws ms ws' ms' used (word b ∷ [])
-known_wrote ws ms ws' ms' used b e h = rw (← e) h
 
 -- what the test says
 pub record Known (st : Statement) (t : Pass2State) : Type 0 where
@@ -69,9 +64,6 @@ module _ (rs src : List ℕ) (n : ℕ) (bs os ws ms : List ℕ) (st : Statement)
   pub known-room : Room ws ms t.used 1
   known-room = rw one at (v.room k.inside)
 
-  start-low : t.start < 65536
-  start-low = let z = one in let h = v.low k.inside (omega arith) in omega arith
-
   pub known-low : st.bits < 65536
   known-low = omega (arith, v.ready.low)
 
@@ -79,21 +71,21 @@ module _ (rs src : List ℕ) (n : ℕ) (bs os ws ms : List ℕ) (st : Statement)
     abbrev here : ℕ
     here = t.start + (t.used - t.base)
 
-    step : (o : words.Op) → s.op ≡ o → told (Word st.bits) ≡ words_of (symbols n rs src) here o s → Stepping bs os ws' ms' (emit (symbols n rs src) s (view_pass2 bs os ws ms t)) (Went u)
+    step : (o : words.Op) → s.op ≡ o → told (Ok st.bits) ≡ words_of (symbols n rs src) here o s → Stepping bs os ws' ms' (emit (symbols n rs src) s (view_pass2 bs os ws ms t)) (Ok u)
     step o e h =
-        let z : told (Word st.bits) ≡ words_of (symbols n rs src) here s.op s = h ∙ ap (λ (x : words.Op). words_of (symbols n rs src) here x s) (sym e) in
-        let y = answer_word ws ms ws' ms' t.used (Word st.bits) st.bits refl w in
-        emit-some rs src n ws ms st t (writes-emits rs src n bs os ws ms st t v) bs os at s v.standing f k.inside ws' ms' l m (t.used - t.base) t.start refl (refl, start-low) (Upto (t.used + 1)) (rw z at y) (Went u) (ap Went q)
+        let z : told (Ok st.bits) ≡ words_of (symbols n rs src) here s.op s = h ∙ ap (λ (x : words.Op). words_of (symbols n rs src) here x s) (sym e) in
+        let y = answer_word ws ms ws' ms' t.used (Ok st.bits) st.bits refl w in
+        emit-some rs src n ws ms st t (writes-emits rs src n bs os ws ms st t v) bs os at s v.standing f k.inside ws' ms' l m (t.used - t.base) t.start refl refl (Ok (t.used + 1)) (rw z at y) (Ok u) (ap Ok q)
 
-    pub known-steps : Stepping bs os ws' ms' (written (symbols n rs src) s.op s (view_pass2 bs os ws ms t)) (Went u)
+    pub known-steps : Stepping bs os ws' ms' (written (symbols n rs src) s.op s (view_pass2 bs os ws ms t)) (Ok u)
     known-steps = go st.op refl k.one
       where
         is : (d : Op) → st.op ≡ d → s.op ≡ meant_op d
         is d e = f.op ∙ ap meant_op e
 
-        go : (d : Op) → st.op ≡ d → one_word d ≡ true → Stepping bs os ws' ms' (written (symbols n rs src) s.op s (view_pass2 bs os ws ms t)) (Went u)
-        go Instr e o = instr-written rs src n bs os ws ms st t v at s f ws' ms' (Went u) (step instr (is Instr e) (instr-bare rs src n st v.ready k.bare st.bits refl here at s f)) e
-        go Fill e o = fill-written rs src n bs os ws ms st t v at s f ws' ms' (Went u) (step fill (is Fill e) (fill-bare rs src n st v.ready k.bare st.bits refl at s f here)) e
+        go : (d : Op) → st.op ≡ d → one_word d ≡ true → Stepping bs os ws' ms' (written (symbols n rs src) s.op s (view_pass2 bs os ws ms t)) (Ok u)
+        go Instr e o = instr-written rs src n bs os ws ms st t v at s f ws' ms' (Ok u) (step instr (is Instr e) (instr-bare rs src n st v.ready k.bare st.bits refl here at s f)) e
+        go Fill e o = fill-written rs src n bs os ws ms st t v at s f ws' ms' (Ok u) (step fill (is Fill e) (fill-bare rs src n st v.ready k.bare st.bits refl at s f here)) e
         go Blkw e o = never cc
         go Stringz e o = never cc
         go Orig e o = never cc

@@ -1,4 +1,9 @@
 -- The rules' state of pass two that the code's state and buffers stand for. Assumes nothing.
+use Rattle.base_refusals.specs.declared.Refusal.{Refusal}
+use Rattle.std.specs.declared.result.Result.{Result}
+use Rattle.std.specs.declared.result.Result.TheVariants.{Ok, Err}
+use Rattle.base_refusals.specs.declared.Fault.{Fault}
+use Rattle.base_refusals.specs.Refusals.{fault}
 use Rattle.std.specs.Prelude.{◌≡◌, Bool, true, false, ◌&&◌, List, ℕ, ◌+◌, ◌-◌, ◌*◌, ◌≤◌, ◌<◌, length, get_or, eqb}
 use Rattle.std.proofs.Math.Option.{Option, none, some}
 use Rattle.rules.specs.Base.{Outcome, ok, span}
@@ -14,12 +19,8 @@ use Rattle.parse_rows.specs.declared.Op.TheVariants.{Instr, Orig, Fill, Blkw, St
 use Rattle.parse_rows.specs.declared.Op.TheVariants as op
 use Rattle.parse.specs.declared.Statement.{Statement}
 use Rattle.pass2_encode.specs.Worded.{Ready}
-use Rattle.pass2_words.specs.declared.Written.{Written}
-use Rattle.pass2_words.specs.declared.Written.TheVariants as written
 use Rattle.pass2_words.specs.Writing.{Clear, Room, size_at, Roomy}
 use Rattle.pass2_statement.specs.declared.Pass2State.{Pass2State}
-use Rattle.pass2_statement.specs.declared.Pass2Step.{Pass2Step}
-use Rattle.pass2_statement.specs.declared.Pass2Step.TheVariants.{Went, Refused}
 
 abbrev pub open_of : Bool → ObjBlock → Option ObjBlock
 open_of true x = some x
@@ -33,9 +34,9 @@ abbrev pub view_pass2 : (bs os ws ms : List ℕ) → Pass2State → rule.Pass2St
 view_pass2 bs os ws ms t = pass2_state (open_of t.inside (opened ws ms t)) (view_obj_blocks t.blocks bs os ws ms)
 
 -- what a step's answer stands for
-abbrev pub told : (bs os ws ms : List ℕ) → Pass2Step → Outcome rule.Pass2State
-told bs os ws ms (Went t) = ok (view_pass2 bs os ws ms t)
-told bs os ws ms (Refused f) = refused_by f
+abbrev pub told : (bs os ws ms : List ℕ) → Result Pass2State Refusal → Outcome rule.Pass2State
+told bs os ws ms (Ok t) = ok (view_pass2 bs os ws ms t)
+told bs os ws ms (Err f) = refused_by f
 
 -- what always holds: the closed blocks' words come first, each word stands beside its mark, and what is not in use is zero
 pub record Standing (bs os ws ms : List ℕ) (t : Pass2State) : Type 0 where
@@ -53,9 +54,9 @@ pub record Standing (bs os ws ms : List ℕ) (t : Pass2State) : Type 0 where
   pub clear_origs : (i : ℕ) → t.blocks * 2 ≤ i → get_or os i 0 ≡ 0
 
 -- a step by a rule, and the buffers after it
-pub record Stepping (bs' os' ws' ms' : List ℕ) (o : Outcome rule.Pass2State) (r : Pass2Step) : Type 0 where
+pub record Stepping (bs' os' ws' ms' : List ℕ) (o : Outcome rule.Pass2State) (r : Result Pass2State Refusal) : Type 0 where
   pub rule : told bs' os' ws' ms' r ≡ o
-  pub kept : (t' : Pass2State) → r ≡ Went t' → Standing bs' os' ws' ms' t'
+  pub kept : (t' : Pass2State) → r ≡ Ok t' → Standing bs' os' ws' ms' t'
 
 -- the states that the steps make
 abbrev pub with_used : Pass2State → ℕ → Pass2State
@@ -81,13 +82,13 @@ opening t s a e = record { inside = true; start = s; orig_start = a; orig_end = 
 abbrev pub closing : Pass2State → ℕ → Pass2State
 closing t b = record { inside = false; start = t.start; orig_start = t.orig_start; orig_end = t.orig_end; blocks = b; base = t.used; used = t.used }
 
-abbrev pub step_of : Pass2State → Written → Pass2Step
-step_of t (written.Upto u) = Went (with_used t u)
-step_of t (written.Refused n a e) = Refused (refusal_at n a e)
+abbrev pub step_of : Pass2State → Result ℕ Fault → Result Pass2State Refusal
+step_of t (Ok u) = Ok (with_used t u)
+step_of t (Err f) = Err (refusal_at f.number f.start f.end)
 
-abbrev pub close_of : Pass2State → Placing → Pass2Step
-close_of t placing.Placed = Went (closing t (t.blocks + 1))
-close_of t (placing.Overlaps a b c d) = Refused (refusal 28 a b c d)
+abbrev pub close_of : Pass2State → Placing → Result Pass2State Refusal
+close_of t placing.Placed = Ok (closing t (t.blocks + 1))
+close_of t (placing.Overlaps a b c d) = Err (refusal 28 a b c d)
 
 -- room for a statement's words
 pub record Emits (rs src : List ℕ) (n : ℕ) (ws ms : List ℕ) (st : Statement) (t : Pass2State) : Type 0 where

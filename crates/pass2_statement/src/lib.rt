@@ -1,7 +1,7 @@
 // A statement in pass two: its words behind those of the open block, an .orig, or an .end.
 #![tactic(auto)]
 
-ghost use Rattle.std.specs.Prelude.{◌≡◌, List, [], ◌∷◌, ℕ, ◌+◌, ◌<◌};
+ghost use Rattle.std.specs.Prelude.{◌≡◌, List, [], ◌∷◌, ℕ, ◌+◌, ◌<◌, Err};
 ghost use Rattle.rules.specs.Objects.{word};
 ghost use Rattle.rules.specs.Statements.{Stmt};
 ghost use Rattle.rules.specs.Passes.{emit, finish, written};
@@ -11,12 +11,10 @@ ghost use Rattle.parse_meaning.specs.Reading.{Faithful};
 ghost use Rattle.pass2_words.specs.Writing.{Room, Wrote};
 ghost use Rattle.pass2_statement.specs.State.{view_pass2, Standing, Stepping, Emits, Begins, Ends, Writes, with_used, one_word, known, opening, closing, step_of, close_of};
 
-use base_casts::{narrow, wide, word16, word32};
-use base_refusals::Refusal;
+use base_refusals::{Fault, Refusal};
 use parse::Statement;
 use parse_rows::Op;
 use pass2_blocks::Placing;
-use pass2_words::Written;
 
 // The open block's start and .orig, where a block is open; how many blocks are closed, with how many words; and how many words are in use, those of the open block with them.
 #[derive(Clone, Copy)]
@@ -30,26 +28,11 @@ pub struct Pass2State {
     pub used: usize,
 }
 
-// The state after a step, or the refusal with its number and both spans.
-#[derive(Clone, Copy)]
-pub enum Pass2Step {
-    Went(Pass2State),
-    Refused(Refusal),
-}
-
 // The state with so many words in use.
 fn with_used(t: Pass2State, used: usize) -> Pass2State
     ensures { result ≡ with_used t used }
 {
-    Pass2State {
-        inside: t.inside,
-        start: t.start,
-        orig_start: t.orig_start,
-        orig_end: t.orig_end,
-        blocks: t.blocks,
-        base: t.base,
-        used,
-    }
+    Pass2State { used, ..t }
 }
 
 // The state with a block that begins at an address.
@@ -61,9 +44,7 @@ fn begin(t: Pass2State, start: u16, orig_start: u32, orig_end: u32) -> Pass2Stat
         start,
         orig_start,
         orig_end,
-        blocks: t.blocks,
-        base: t.base,
-        used: t.used,
+        ..t
     }
 }
 
@@ -73,20 +54,17 @@ fn shut(t: Pass2State, blocks: usize) -> Pass2State
 {
     Pass2State {
         inside: false,
-        start: t.start,
-        orig_start: t.orig_start,
-        orig_end: t.orig_end,
         blocks,
         base: t.used,
-        used: t.used,
+        ..t
     }
 }
 
 // A refusal at one place.
-pub fn refused(number: u16, start: usize, end: usize) -> Pass2Step
-    ensures { result ≡ Pass2Step.Refused (refusal_at number start end) }
+pub fn refused(number: u16, start: usize, end: usize) -> Result<Pass2State, Refusal>
+    ensures { result ≡ Err (refusal_at number start end) }
 {
-    Pass2Step::Refused(Refusal {
+    Err(Refusal {
         number,
         start,
         end,
@@ -96,12 +74,12 @@ pub fn refused(number: u16, start: usize, end: usize) -> Pass2Step
 }
 
 // What writing words answers, as a step from a state.
-fn step_of(t: Pass2State, answer: Written) -> Pass2Step
+fn step_of(t: Pass2State, answer: Result<usize, Fault>) -> Result<Pass2State, Refusal>
     ensures { result ≡ step_of t answer }
 {
     match answer {
-        Written::Upto(used) => Pass2Step::Went(with_used(t, used)),
-        Written::Refused { number, start, end } => refused(number, start, end),
+        Ok(used) => Ok(with_used(t, used)),
+        Err(fault) => Err(fault.into()),
     }
 }
 
@@ -114,13 +92,13 @@ fn emit_words(
     marks: &mut [u8],
     st: Statement,
     t: Pass2State,
-) -> Pass2Step
+) -> Result<Pass2State, Refusal>
     requires { Emits rows.now src.now n words.old marks.old st t }
     ensures { (bs os : List ℕ) (at : ℕ) (s : Stmt) → Standing bs os words.old marks.old t → Faithful src.now at st s → Stepping bs os words.new marks.new (emit (symbols n rows.now src.now) s (view_pass2 bs os words.old marks.old t)) result }
 {
     if t.inside {
-        let size = narrow(t.used - t.base);
-        let address = word32(t.start) + size;
+        let size = (t.used - t.base) as u32;
+        let address = u32::from(t.start) + size;
         let used = t.used;
         let answer = pass2_words::write_words(src, rows, n, words, marks, st, used, address);
         return step_of(t, answer);
@@ -132,23 +110,14 @@ fn emit_words(
 fn is_one_word(op: Op) -> bool
     ensures { result ≡ one_word op }
 {
-    match op {
-        Op::Instr => true,
-        Op::Fill => true,
-        Op::Blkw => false,
-        Op::Stringz => false,
-        Op::Orig => false,
-        Op::End => false,
-        Op::External => false,
-    }
+    matches!(op, Op::Instr | Op::Fill)
 }
 
 // An instruction or a .fill without a label operand, where a block is open: its word is known, and nothing is refused.
 pub fn is_known(st: Statement, t: Pass2State) -> bool
     ensures { result ≡ known st t }
 {
-    let op = st.op;
-    let one = is_one_word(op);
+    let one = is_one_word(st.op);
     one & (st.reach == parse_field::NO_LABEL) & t.inside
 }
 
@@ -158,9 +127,8 @@ pub fn put_known(words: &mut [u16], marks: &mut [u8], st: Statement, t: Pass2Sta
     requires bits_bound { st.bits < 65536 }
     ensures { Wrote words.old marks.old words.new marks.new t.used (word st.bits ∷ []) × (result ≡ with_used t (t.used + 1)) }
 {
-    let used = t.used;
-    pass2_words::push(words, marks, used, word16(st.bits));
-    with_used(t, used + 1)
+    pass2_words::push(words, marks, t.used, st.bits as u16);
+    with_used(t, t.used + 1)
 }
 
 // .orig: a block begins where none is open.
@@ -168,30 +136,27 @@ fn begin_block(st: Statement, t: Pass2State) -> Pass2State
     requires { Begins st t }
     ensures { result ≡ opening t st.bits st.start st.end }
 {
-    let start = word16(st.bits);
-    let orig_start = narrow(st.start);
-    let orig_end = narrow(st.end);
-    begin(t, start, orig_start, orig_end)
+    begin(t, st.bits as u16, st.start as u32, st.end as u32)
 }
 
 // What placing the open block answers, as a step from a state.
-fn close_of(t: Pass2State, answer: Placing) -> Pass2Step
+fn close_of(t: Pass2State, answer: Placing) -> Result<Pass2State, Refusal>
     requires { t.blocks < 64 }
     ensures { result ≡ close_of t answer }
 {
     match answer {
-        Placing::Placed => Pass2Step::Went(shut(t, t.blocks + 1)),
+        Placing::Placed => Ok(shut(t, t.blocks + 1)),
         Placing::Overlaps {
             first_start,
             first_end,
             second_start,
             second_end,
-        } => Pass2Step::Refused(Refusal {
+        } => Err(Refusal {
             number: base_refusals::OVERLAPPING_BLOCKS,
-            start: wide(first_start),
-            end: wide(first_end),
-            start2: wide(second_start),
-            end2: wide(second_end),
+            start: first_start as usize,
+            end: first_end as usize,
+            start2: second_start as usize,
+            end2: second_end as usize,
         }),
     }
 }
@@ -203,7 +168,7 @@ fn finish_block(
     words: &mut [u16],
     marks: &mut [u8],
     t: Pass2State,
-) -> Pass2Step
+) -> Result<Pass2State, Refusal>
     requires { Ends blocks.old origs.old words.old marks.old t }
     ensures { Stepping blocks.new origs.new words.new marks.new (finish (view_pass2 blocks.old origs.old words.old marks.old t)) result }
 {
@@ -211,9 +176,9 @@ fn finish_block(
         let n = t.blocks;
         let size = t.used - t.base;
         if size == 0 {
-            return Pass2Step::Went(shut(t, n));
+            return Ok(shut(t, n));
         }
-        let length = word16(narrow(size));
+        let length = size as u16;
         let used = t.used;
         let start = t.start;
         let from = t.orig_start;
@@ -223,7 +188,7 @@ fn finish_block(
         );
         return close_of(t, answer);
     }
-    Pass2Step::Went(t)
+    Ok(t)
 }
 
 // A statement of any kind.
@@ -237,18 +202,17 @@ pub fn write_statement(
     marks: &mut [u8],
     st: Statement,
     t: Pass2State,
-) -> Pass2Step
+) -> Result<Pass2State, Refusal>
     requires { Writes rows.now src.now n blocks.old origs.old words.old marks.old st t }
     ensures { (at : ℕ) (s : Stmt) → Faithful src.now at st s → Stepping blocks.new origs.new words.new marks.new (written (symbols n rows.now src.now) s.op s (view_pass2 blocks.old origs.old words.old marks.old t)) result }
 {
-    let op = st.op;
-    match op {
+    match st.op {
         Op::Instr => emit_words(src, rows, n, words, marks, st, t),
         Op::Fill => emit_words(src, rows, n, words, marks, st, t),
         Op::Blkw => emit_words(src, rows, n, words, marks, st, t),
         Op::Stringz => emit_words(src, rows, n, words, marks, st, t),
-        Op::Orig => Pass2Step::Went(begin_block(st, t)),
+        Op::Orig => Ok(begin_block(st, t)),
         Op::End => finish_block(blocks, origs, words, marks, t),
-        Op::External => Pass2Step::Went(t),
+        Op::External => Ok(t),
     }
 }

@@ -1,12 +1,15 @@
 -- Words written behind those in use: none, one, more behind these, and unset ones. Assumes nothing.
+use Rattle.std.specs.declared.result.Result.{Result}
+use Rattle.std.specs.declared.result.Result.TheVariants.{Ok, Err}
+use Rattle.base_refusals.specs.declared.Fault.{Fault}
 use mathlib.Core.Path.{◌≡◌, refl, sym, ◌∙◌, ap}
 use mathlib.Core.List.{List, [], ◌∷◌, ◌++◌}
-use Prim.Native.Nat.{ℕ, zero, suc, ◌+◌, ◌-◌, ◌≤◌, ◌<◌}
+use Prim.Native.Nat.{ℕ, zero, suc, ◌+◌, ◌≤◌, ◌<◌}
 use native.Mathlib.Omega.{arith}
 use native.Mathlib.Decide.{dec_lt}
 use lib.ListN.{length, get_or, set, replicate, length-append, length-replicate}
 use lib.Seq.{get_or-set_same, get_or-set_other}
-use Rattle.rules.specs.Base.{Outcome, ok, refuse, span}
+use Rattle.rules.specs.Base.{Outcome, ok}
 use Rattle.rules.specs.Objects.{Cell, word, unset}
 use Rattle.rules.specs.Buffers.{tab, cell_of, cell_row, WordRow}
 use Rattle.rules.proofs.Rows.{tab-ext}
@@ -14,11 +17,7 @@ use Rattle.rules.proofs.Bools.{never}
 use Rattle.base_rows.proofs.Sorted.{tab-split}
 use Rattle.pass2_blocks.specs.Rows.{cells_at}
 use Rattle.pass2_blocks.proofs.Placed.{cells-moved}
-use Rattle.pass2_encode.specs.declared.Worded.{Worded}
-use Rattle.pass2_encode.specs.declared.Worded.TheVariants.{Word}
-use Rattle.pass2_encode.specs.declared.Worded.TheVariants as worded
 use Rattle.pass2_encode.specs.Worded.{told}
-use Rattle.pass2_words.specs.declared.Written.TheVariants.{Upto, Refused}
 use Rattle.pass2_words.specs.Writing.{Clear, Room, Wrote, WroteAs}
 
 pub cells-split : (ws ms : List ℕ) (lo a b : ℕ) → cells_at ws ms lo (a + b) ≡ cells_at ws ms lo a ++ cells_at ws ms (lo + a) b
@@ -105,22 +104,13 @@ module _ (ws ms : List ℕ) (used : ℕ) (c : Clear ws ms used) where
 
 -- ANSWERS
 module _ (o : Outcome (List Cell)) (ws ms ws' ms' : List ℕ) (used : ℕ) where
-  pub went_to : (u : ℕ) (cs : List Cell) → o ≡ ok cs → u ≡ used + length cs → Wrote ws ms ws' ms' used cs → WroteAs o ws ms ws' ms' used (Upto u)
+  pub went_to : (u : ℕ) (cs : List Cell) → o ≡ ok cs → u ≡ used + length cs → Wrote ws ms ws' ms' used cs → WroteAs o ws ms ws' ms' used (Ok u)
   went_to u cs e l w = record {
     went = λ x q. (let y : u ≡ x = cc in record { cells = cs; is = e; upto = sym y ∙ l; wrote = w });
-    stuck = λ n a b q. (never cc);
-  }
-
-  pub stuck_at : (n a e : ℕ) → o ≡ refuse n (span a e) → WroteAs o ws ms ws' ms' used (Refused n a e)
-  stuck_at n a e h = record {
-    went = λ x q. (never cc);
-    stuck = λ m b d q. (let x : n ≡ m = cc in let y : a ≡ b = cc in let z : e ≡ d = cc in rw (← x, ← y, ← z) h);
+    stuck = λ f q. (never cc);
   }
 
 -- an answer's word
-module _ (ws ms ws' ms' : List ℕ) (used : ℕ) (z : Worded) where
-  pub answer_word : (w : ℕ) → z ≡ Word w → Wrote ws ms ws' ms' used (word w ∷ []) → WroteAs (told z) ws ms ws' ms' used (Upto (used + 1))
+module _ (ws ms ws' ms' : List ℕ) (used : ℕ) (z : Result ℕ Fault) where
+  pub answer_word : (w : ℕ) → z ≡ Ok w → Wrote ws ms ws' ms' used (word w ∷ []) → WroteAs (told z) ws ms ws' ms' used (Ok (used + 1))
   answer_word w e h = went_to (told z) ws ms ws' ms' used (used + 1) (word w ∷ []) (ap told e) refl h
-
-  pub answer-refused : (n a e : ℕ) → z ≡ worded.Refused n a e → WroteAs (told z) ws ms ws' ms' used (Refused n a e)
-  answer-refused n a e q = stuck_at (told z) ws ms ws' ms' used n a e (ap told q)

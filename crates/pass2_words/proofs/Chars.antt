@@ -6,7 +6,7 @@ use mathlib.Core.Bool.{Bool, true, false}
 use native.Mathlib.Nat.{not-suc-le-zero, le_of_suc-le-suc}
 use native.Mathlib.Omega.{arith}
 use lib.ListN.{length, get_or, take, length-append, length-map, length-drop}
-use lib.Seq.{get_or-drop, length-take-le, take_all, take-suc}
+use lib.Seq.{get_or-drop, length-take-le, take-suc}
 use Rattle.rules.specs.Tokens.{while}
 use Rattle.rules.specs.Objects.{word}
 use Rattle.rules.proofs.Sizes.{while-short}
@@ -67,15 +67,9 @@ pub writing_start : (src ws ms : List ℕ) (i n used : ℕ) → n ≡ length (pl
 writing_start src ws ms i n used e r = record { wrote = wrote_none ws ms used; whole = e; within = omega arith; room = r; long = refl; long-marks = refl }
 
 module _ (src ws₀ ms₀ ws ms : List ℕ) (i n used j : ℕ) (v : Writing src ws₀ ms₀ ws ms i n used j) where
-  pub writing-done : n ≤ j → Wrote ws₀ ms₀ ws ms used (map word (plain_at src i))
-  writing-done h = rw (take_all j (plain_at src i) (omega (arith, v.whole))) at v.wrote
-
   module _ (h : j < n) where
     pub writing-inside : i + j < length src
     writing-inside = plain-inside src i j (omega (arith, v.whole))
-
-    pub writing-room : Room ws ms (used + j) 1
-    writing-room = record { words = omega (arith, v.room.words, v.long); marks = omega (arith, v.room.marks, v.long-marks) }
 
     pub writing-on : (ws' ms' : List ℕ) (w : ℕ) → w ≡ get_or src (i + j) 0 → Wrote ws ms ws' ms' (used + j) (word w ∷ []) → length ws' ≡ length ws → length ms' ≡ length ms → Writing src ws₀ ms₀ ws' ms' i n used (j + 1)
     writing-on ws' ms' w e p l m =
@@ -180,13 +174,7 @@ no-chars src q h = empty (chars_at src q) (chars_at src (q + 1)) (omega (arith, 
 
 -- A STRING AND ITS ZERO
 module _ (src ws ms : List ℕ) (used q at : ℕ) (e : chars_at src at ≡ chars_at src (q + 1)) (r : Room ws ms used (length (chars_at src (q + 1)) + 1)) where
-  pub string-room : Room ws ms used (length (chars_at src at))
-  string-room = record { words = omega (arith, r.words, ap length e); marks = omega (arith, r.marks, ap length e) }
-
   module _ (ws₁ ms₁ : List ℕ) (k : ℕ) (p : Wrote ws ms ws₁ ms₁ used (map word (chars_at src at)) × (k ≡ used + length (chars_at src at))) where
-    pub zero_room : length ws₁ ≡ length ws → length ms₁ ≡ length ms → Room ws₁ ms₁ k 1
-    zero_room l m = record { words = omega (arith, r.words, ap length e, p.1); marks = omega (arith, r.marks, ap length e, p.1) }
-
     pub string-done : (ws₂ ms₂ : List ℕ) → Wrote ws₁ ms₁ ws₂ ms₂ k (word 0 ∷ []) → Wrote ws ms ws₂ ms₂ used (map word (chars_at src (q + 1) ++ 0 ∷ [])) × (k + 1 ≡ used + (length (chars_at src (q + 1)) + 1))
     string-done ws₂ ms₂ w =
         let u : k ≡ used + length (map word (chars_at src at)) = p.1 ∙ ap (λ (n : ℕ). used + n) (sym (length-map (chars_at src at) word)) in

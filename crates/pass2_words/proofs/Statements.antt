@@ -1,4 +1,5 @@
 -- What each kind of statement writes. Assumes nothing.
+use Rattle.std.specs.declared.result.Result.TheVariants.{Ok, Err}
 use mathlib.Core.Path.{◌≡◌, refl, sym, ◌∙◌, ap}
 use mathlib.Core.List.{List, [], ◌∷◌, ◌++◌, map}
 use Prim.Native.Nat.{ℕ, ◌+◌, ◌<◌}
@@ -18,8 +19,6 @@ use Rattle.parse_rows.specs.declared.Op.TheVariants as op
 use Rattle.parse.specs.declared.Statement.{Statement}
 use Rattle.pass1_symbols.specs.Symbols.{symbols}
 use Rattle.parse_meaning.specs.Reading.{meant_op, chars_at, Faithful}
-use Rattle.pass2_words.specs.declared.Written.{Written}
-use Rattle.pass2_words.specs.declared.Written.TheVariants.{Upto}
 use Rattle.pass2_words.specs.Writing.{Room, Wrote, WroteAs, size_by, size_at, Roomy}
 use Rattle.pass2_words.proofs.Cells.{wrote_none, wrote-unset, went_to}
 
@@ -63,21 +62,13 @@ module _ (rs src : List ℕ) (n : ℕ) (ws ms : List ℕ) (st : Statement) (used
     rule-of : (o : Op) → st.op ≡ o → words_of (symbols n rs src) a (meant_op o) s ≡ Words
     rule-of o e = ap (λ (x : words.Op). words_of (symbols n rs src) a x s) (sym (f.op ∙ ap meant_op e))
 
-    -- the one word of an instruction or a.fill
-    module _ (ws' ms' : List ℕ) (z : Outcome (List Cell)) (r : Written) (h : WroteAs z ws ms ws' ms' used r) where
-      pub wrote-instr : st.op ≡ Instr → (s.op ≡ instr → z ≡ words_of (symbols n rs src) a instr s) → WroteAs Words ws ms ws' ms' used r
-      wrote-instr e q = let y : z ≡ Words = q (f.op ∙ ap meant_op e) ∙ rule-of Instr e in rw y at h
-
-      pub wrote-fill : st.op ≡ Fill → z ≡ words_of (symbols n rs src) a fill s → WroteAs Words ws ms ws' ms' used r
-      wrote-fill e q = let y : z ≡ Words = q ∙ rule-of Fill e in rw y at h
-
-    pub wrote-blkw : st.op ≡ Blkw → (k : ℕ) → k ≡ st.bits → WroteAs Words ws ms ws ms used (Upto (used + k))
+    pub wrote-blkw : st.op ≡ Blkw → (k : ℕ) → k ≡ st.bits → WroteAs Words ws ms ws ms used (Ok (used + k))
     wrote-blkw e k q = went_to Words ws ms ws ms used (used + k) (replicate s.bits unset)
         (sym (rule-of Blkw e) ∙ words-unset (symbols n rs src) a s)
         (ap (λ (x : ℕ). used + x) (q ∙ (sym f.bits ∙ sym (length-replicate s.bits unset))))
         (wrote-unset ws ms used v.clear s.bits)
 
-    pub wrote-string : st.op ≡ Stringz → (ws' ms' : List ℕ) (k : ℕ) → Wrote ws ms ws' ms' used (map word (chars_at src (st.text_start + 1) ++ 0 ∷ [])) × (k ≡ used + (length (chars_at src (st.text_start + 1)) + 1)) → WroteAs Words ws ms ws' ms' used (Upto k)
+    pub wrote-string : st.op ≡ Stringz → (ws' ms' : List ℕ) (k : ℕ) → Wrote ws ms ws' ms' used (map word (chars_at src (st.text_start + 1) ++ 0 ∷ [])) × (k ≡ used + (length (chars_at src (st.text_start + 1)) + 1)) → WroteAs Words ws ms ws' ms' used (Ok k)
     wrote-string e ws' ms' k h =
         let t = f.text e in
         let l : length (map word (chars_at src (st.text_start + 1) ++ 0 ∷ [])) ≡ length (chars_at src (st.text_start + 1)) + 1 = length-map (chars_at src (st.text_start + 1) ++ 0 ∷ []) word ∙ (length-append (chars_at src (st.text_start + 1)) (0 ∷ []) ∙ omega arith) in
@@ -86,16 +77,16 @@ module _ (rs src : List ℕ) (n : ℕ) (ws ms : List ℕ) (st : Statement) (used
         (omega (arith, h.1, l))
         h.0
 
-    nothing_written : Words ≡ ok [] → WroteAs Words ws ms ws ms used (Upto used)
+    nothing_written : Words ≡ ok [] → WroteAs Words ws ms ws ms used (Ok used)
     nothing_written e = went_to Words ws ms ws ms used used [] e (omega arith) (wrote_none ws ms used)
 
-    pub wrote-orig : st.op ≡ Orig → WroteAs Words ws ms ws ms used (Upto used)
+    pub wrote-orig : st.op ≡ Orig → WroteAs Words ws ms ws ms used (Ok used)
     wrote-orig e = nothing_written (sym (rule-of Orig e) ∙ (words-none (symbols n rs src) a s).0)
 
-    pub wrote-end : st.op ≡ op.End → WroteAs Words ws ms ws ms used (Upto used)
+    pub wrote-end : st.op ≡ op.End → WroteAs Words ws ms ws ms used (Ok used)
     wrote-end e = nothing_written (sym (rule-of op.End e) ∙ (words-none (symbols n rs src) a s).1)
 
-    pub wrote-external : st.op ≡ External → WroteAs Words ws ms ws ms used (Upto used)
+    pub wrote-external : st.op ≡ External → WroteAs Words ws ms ws ms used (Ok used)
     wrote-external e = nothing_written (sym (rule-of External e) ∙ (words-none (symbols n rs src) a s).2)
 
 -- the rule's size is that of the code's statement

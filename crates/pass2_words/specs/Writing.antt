@@ -1,4 +1,8 @@
 -- Words beside their marks, written behind those in use. Assumes nothing.
+use Rattle.std.specs.declared.result.Result.{Result}
+use Rattle.std.specs.declared.result.Result.TheVariants.{Ok, Err}
+use Rattle.base_refusals.specs.declared.Fault.{Fault}
+use Rattle.base_refusals.specs.Refusals.{fault}
 use Rattle.std.specs.Prelude.{◌≡◌, List, ℕ, ◌+◌, ◌≤◌, ◌<◌, length, get_or}
 use Rattle.rules.specs.Base.{Outcome, ok, refuse, span}
 use Rattle.rules.specs.Objects.{Cell}
@@ -10,8 +14,6 @@ use Rattle.parse_rows.specs.declared.Op.TheVariants as op
 use Rattle.parse.specs.declared.Statement.{Statement}
 use Rattle.parse_meaning.specs.Reading.{chars_at}
 use Rattle.pass2_encode.specs.Worded.{Ready}
-use Rattle.pass2_words.specs.declared.Written.{Written}
-use Rattle.pass2_words.specs.declared.Written.TheVariants.{Upto, Refused}
 
 -- zero from a place on
 pub record Clear (ws ms : List ℕ) (used : ℕ) : Type 0 where
@@ -40,9 +42,9 @@ pub record WroteAll (o : Outcome (List Cell)) (ws ms ws' ms' : List ℕ) (used u
   pub wrote : Wrote ws ms ws' ms' used cells
 
 -- what an answer says of an outcome
-pub record WroteAs (o : Outcome (List Cell)) (ws ms ws' ms' : List ℕ) (used : ℕ) (r : Written) : Type 0 where
-  pub went : (u : ℕ) → r ≡ Upto u → WroteAll o ws ms ws' ms' used u
-  pub stuck : (n a e : ℕ) → r ≡ Refused n a e → o ≡ refuse n (span a e)
+pub record WroteAs (o : Outcome (List Cell)) (ws ms ws' ms' : List ℕ) (used : ℕ) (r : Result ℕ Fault) : Type 0 where
+  pub went : (u : ℕ) → r ≡ Ok u → WroteAll o ws ms ws' ms' used u
+  pub stuck : (f : Fault) → r ≡ Err f → o ≡ refuse f.number (span f.start f.end)
 
 -- how many words a statement takes
 abbrev pub size_by : Op → (bits chars : ℕ) → ℕ

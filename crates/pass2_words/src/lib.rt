@@ -10,22 +10,10 @@ ghost use Rattle.parse_meaning.specs.Reading.{chars_at, plain_at, Faithful};
 ghost use Rattle.pass2_encode.specs.Worded.{told};
 ghost use Rattle.pass2_words.specs.Writing.{Wrote, WroteAs, Room, Roomy};
 
-use base_casts::{wide, word8};
+use base_refusals::Fault;
 use lex_literals::StringChar;
 use parse::Statement;
 use parse_rows::Op;
-use pass2_encode::Worded;
-
-// The words in use are so many; or the refusal.
-#[derive(Clone, Copy)]
-pub enum Written {
-    Upto(usize),
-    Refused {
-        number: u16,
-        start: usize,
-        end: usize,
-    },
-}
 
 // A word behind those in use.
 pub fn push(words: &mut [u16], marks: &mut [u8], used: usize, w: u16)
@@ -36,18 +24,18 @@ pub fn push(words: &mut [u16], marks: &mut [u8], used: usize, w: u16)
     marks[used] = base_capacities::SET;
 }
 
-// The word of an answer.
-fn put_answer(words: &mut [u16], marks: &mut [u8], used: usize, answer: Worded) -> Written
+// The word of an answer, and how many words are in use with it.
+fn put_answer(
+    words: &mut [u16],
+    marks: &mut [u8],
+    used: usize,
+    answer: Result<u16, Fault>,
+) -> Result<usize, Fault>
     requires { Room words.old marks.old used 1 }
     ensures { WroteAs (told answer) words.old marks.old words.new marks.new used result }
 {
-    match answer {
-        Worded::Word(w) => {
-            push(words, marks, used, w);
-            Written::Upto(used + 1)
-        }
-        Worded::Refused { number, start, end } => Written::Refused { number, start, end },
-    }
+    push(words, marks, used, answer?);
+    Ok(used + 1)
 }
 
 // The n plain bytes of a string from a place on, each a word.
@@ -56,12 +44,8 @@ fn put_plain(src: &[u8], i: usize, n: usize, words: &mut [u16], marks: &mut [u8]
     requires room { Room words.old marks.old used n }
     ensures { Wrote words.old marks.old words.new marks.new used (map word (plain_at src.now i)) }
 {
-    let mut j = 0;
-    while j < n {
-        let from = i + j;
-        let to = used + j;
-        push(words, marks, to, word8(src[from]));
-        j += 1;
+    for j in 0..n {
+        push(words, marks, used + j, u16::from(src[i + j]));
     }
 }
 
@@ -72,6 +56,7 @@ fn put_chars(src: &[u8], words: &mut [u16], marks: &mut [u8], used: usize, at: u
 {
     let mut i = at;
     let mut k = used;
+    // A loop: characters until the end of the string.
     loop {
         let stop = base_runs::plain_end(src, i);
         let run = stop - i;
@@ -79,7 +64,7 @@ fn put_chars(src: &[u8], words: &mut [u16], marks: &mut [u8], used: usize, at: u
         k += run;
         match lex_literals::string_char(src, stop) {
             StringChar::Char { byte, next } => {
-                push(words, marks, k, word8(byte));
+                push(words, marks, k, u16::from(byte));
                 k += 1;
                 i = next;
             }
@@ -121,12 +106,11 @@ pub fn write_words(
     st: Statement,
     used: usize,
     address: u32,
-) -> Written
+) -> Result<usize, Fault>
     requires { Roomy rows.now src.now n words.old marks.old st used address }
     ensures { (at : ℕ) (s : Stmt) → Faithful src.now at st s → WroteAs (words_of (symbols n rows.now src.now) address s.op s) words.old marks.old words.new marks.new used result }
 {
-    let op = st.op;
-    match op {
+    match st.op {
         Op::Instr => {
             let answer = pass2_encode::instr_word(src, rows, n, st, address);
             put_answer(words, marks, used, answer)
@@ -135,10 +119,10 @@ pub fn write_words(
             let answer = pass2_encode::fill_word(src, rows, n, st);
             put_answer(words, marks, used, answer)
         }
-        Op::Blkw => Written::Upto(used + wide(st.bits)),
-        Op::Stringz => Written::Upto(put_string(src, words, marks, used, st.text_start)),
-        Op::Orig => Written::Upto(used),
-        Op::End => Written::Upto(used),
-        Op::External => Written::Upto(used),
+        Op::Blkw => Ok(used + st.bits as usize),
+        Op::Stringz => Ok(put_string(src, words, marks, used, st.text_start)),
+        Op::Orig => Ok(used),
+        Op::End => Ok(used),
+        Op::External => Ok(used),
     }
 }

@@ -1,5 +1,12 @@
 -- WHAT IS PROVED. Each final theorem of the project, stated here and cited from its proof. Every word that it uses is defined in a folder `specs`: what is right in
 -- that of crate `rules`, what the answers of a crate's code mean in that crate's own. Assumes nothing.
+use Rattle.isa_fields.specs.declared.OffsetNewErr.{OffsetNewErr}
+use Rattle.isa_fields.specs.declared.OffsetNewErr.TheVariants.{CannotFitSigned}
+use Rattle.std.specs.declared.result.Result.TheVariants.{Ok, Err}
+use Rattle.std.specs.declared.option.Option.TheVariants.{Some, None}
+use Rattle.std.specs.declared.result.Result.{Result}
+use Rattle.std.specs.declared.option.Option as O
+use Rattle.base_refusals.specs.declared.Fault.{Fault}
 use Prim.Native.Nat.{ℕ, ◌^◌, ◌≤◌, ◌<◌}
 use mathlib.Core.Bool.{Bool, true, false}
 use mathlib.Core.List.{List, [], ◌∷◌, map, Memᴰ, Permᴰ}
@@ -25,9 +32,8 @@ use Rattle.rules.proofs.Ahead as Ahead
 use Rattle.rules.proofs.Following as Following
 use Rattle.parse_labels.specs.Walk.{label_from}
 use Rattle.parse_labels.specs.declared.NextLabel.{NextLabel}
+use Rattle.parse.specs.declared.Statement.{Statement}
 use Rattle.parse.specs.Coded.{coded_statement, coded_statements, source_statements}
-use Rattle.parse.specs.declared.NextStatement.{NextStatement}
-use Rattle.parse.specs.declared.Statements.{Statements}
 use Rattle.parse.specs.Reach.{LabelField, HasField}
 use Rattle.parse.proofs.Reach as Reach
 use Rattle.parse.proofs.Unique as Parser
@@ -41,7 +47,6 @@ use Rattle.lex_token.proofs.MeantCoded as Tokens
 use Rattle.lex.specs.Label.{label_text}
 use Rattle.lex.proofs.LabelLaws as Labels
 use Rattle.lex_source.specs.Lexed.{meant_lexed}
-use Rattle.lex_source.specs.declared.Lexed.{Lexed}
 use Rattle.lex_source.proofs.OneAnswer as Lexer
 use Rattle.list.specs.Call.{Called}
 use Rattle.object_answer.specs.Writes as Writing
@@ -78,22 +83,15 @@ use Rattle.isa_fields.specs.Fields.{encoded, meant_offset}
 use Rattle.isa.specs.Instructions.{meant}
 use Rattle.isa.specs.Disassembly.{meant_if, meant_line}
 use Rattle.isa.specs.declared.AsmInstr.{AsmInstr}
-use Rattle.isa_fields.specs.declared.Encoded.{Encoded}
-use Rattle.isa_fields.specs.declared.Encoded.TheVariants.{Bits}
-use Rattle.isa_fields.specs.declared.Replaced.{Replaced}
-use Rattle.isa_fields.specs.declared.Replaced.TheVariants.{Offset, OffsetNewErr}
-use Rattle.isa.specs.declared.disassembly.Disassembled.{Disassembled}
-use Rattle.isa.specs.declared.disassembly.Disassembled.TheVariants as D
 use Rattle.isa.specs.declared.disassembly.Line.{Line}
 use Rattle.isa.proofs.Promises as Words
 use Rattle.isa_fields.proofs.Promises as FieldsOf
 use Rattle.rules.specs.Calls.{Answered, OfObject, left_object}
 use Rattle.object_check.specs.Checked as Check
 use Rattle.object_check.specs.Checked.{outcome}
-use Rattle.object_check.specs.declared.Checked.{Checked}
+use Rattle.object_check.specs.declared.ObjectErr.{ObjectErr}
+use Rattle.object.specs.declared.Label as Labelling
 use Rattle.object_lookup.specs.Told.{said, Reversed}
-use Rattle.object_lookup.specs.declared.Said.{Said}
-use Rattle.object_lookup.specs.declared.Found.{Found}
 use Rattle.object_lookup.proofs.Once as Lookup
 use Rattle.rules.specs.Answers.{numbers, answer}
 use Rattle.object_answer.specs.Meant.{AcceptedCall}
@@ -108,7 +106,6 @@ use Rattle.stored_load.proofs.Back as LoadingBack
 use Rattle.asm.specs.Call.{called, Assembled}
 use Rattle.rules.specs.Capacities.{word_room}
 use Rattle.lc3_assemble.specs.Assembled as SourceStored
-use Rattle.lc3_assemble.specs.declared.Assembled.{Assembled as StoredSource}
 use Rattle.lc3_link.specs.Linked as StoredLink
 use Rattle.lc3_link.specs.Linked.{link_stored}
 use Rattle.lc3_link.specs.declared.Linked.{Linked as LinkAnswer}
@@ -141,7 +138,7 @@ next-token-one-answer s at r t = Lexer.next-token-one s at
 pub label-text-one-answer : (s : List ℕ) (start end : ℕ) (r t : List ℕ) → r ≡ label_text s start end → t ≡ label_text s start end → r ≡ t
 label-text-one-answer s start end r t = Lexer.label-text-one s start end
 
-pub first-refusal-one-answer : (s : List ℕ) (r t : Lexed) → meant_lexed r ≡ verdict (lexed s) → meant_lexed t ≡ verdict (lexed s) → r ≡ t
+pub first-refusal-one-answer : (s : List ℕ) (r t : Result (Unit {0}) Fault) → meant_lexed r ≡ verdict (lexed s) → meant_lexed t ≡ verdict (lexed s) → r ≡ t
 first-refusal-one-answer = Lexer.first-refusal-one
 
 -- THE CODE OF STATEMENTS, crates `parse_labels` and `parse`. A statement's labels, walked one at a time by `next_label`, are exactly the rule's.
@@ -163,13 +160,13 @@ label-operand-field = Reach.statement-known
 pub next-label-one-answer : (s : List ℕ) (at : ℕ) (r t : NextLabel) → r ≡ label_from s at → t ≡ label_from s at → r ≡ t
 next-label-one-answer s at r t p q = p ∙ sym q
 
-pub next-statement-one-answer : (s : List ℕ) (at : ℕ) (r t : NextStatement) → r ≡ coded_statement (next_statement s at) → t ≡ coded_statement (next_statement s at) → r ≡ t
+pub next-statement-one-answer : (s : List ℕ) (at : ℕ) (r t : Result (O.Option Statement) Fault) → r ≡ coded_statement (next_statement s at) → t ≡ coded_statement (next_statement s at) → r ≡ t
 next-statement-one-answer = Parser.next-statement-one-answer
 
-pub statements-one-answer : (s : List ℕ) (r t : Statements) → r ≡ coded_statements (statements s) → t ≡ coded_statements (statements s) → r ≡ t
+pub statements-one-answer : (s : List ℕ) (r t : Result (Unit {0}) Fault) → r ≡ coded_statements (statements s) → t ≡ coded_statements (statements s) → r ≡ t
 statements-one-answer = Parser.first-refusal-one-answer
 
-pub check-source-one-answer : (s : List ℕ) (r t : Statements) → r ≡ coded_statements (source_statements s) → t ≡ coded_statements (source_statements s) → r ≡ t
+pub check-source-one-answer : (s : List ℕ) (r t : Result (Unit {0}) Fault) → r ≡ coded_statements (source_statements s) → t ≡ coded_statements (source_statements s) → r ≡ t
 check-source-one-answer = Parser.check-source-one-answer
 
 -- MARKED EXAMPLES. P1 to P10: each row of the table gives its answer.
@@ -218,14 +215,14 @@ pub answered-once : {A : Type 0} {small : Bool} {valid : Type 0} {rule r s : Out
 answered-once = Calling.answered-once
 
 -- THE CODE OF LENT OBJECTS. Two answers that a contract allows are equal: `check_object`; `lookup_label`; `rev_lookup_label`.
-pub check-object-one-answer : (c : Counts) (b : Buffers) (r s : Checked) → OfObject c b (ok tt) (outcome r) → OfObject c b (ok tt) (outcome s) → r ≡ s
+pub check-object-one-answer : (c : Counts) (b : Buffers) (r s : Result (Unit {0}) ObjectErr) → OfObject c b (ok tt) (outcome r) → OfObject c b (ok tt) (outcome s) → r ≡ s
 check-object-one-answer = Check.checked-once
 
 pub lookup-label-one-answer :
-    (c : Counts) (b : Buffers) (m : List ℕ) (r s : Said) → OfObject c b (ok (lookup_label (view c b) m)) (said r) → OfObject c b (ok (lookup_label (view c b) m)) (said s) → r ≡ s
+    (c : Counts) (b : Buffers) (m : List ℕ) (r s : Result (O.Option Labelling.Label) ObjectErr) → OfObject c b (ok (lookup_label (view c b) m)) (said r) → OfObject c b (ok (lookup_label (view c b) m)) (said s) → r ≡ s
 lookup-label-one-answer = Lookup.said-once
 
-pub rev-lookup-label-one-answer : (c : Counts) (b : Buffers) (a : ℕ) (r s : Found) → Reversed c b a r → Reversed c b a s → r ≡ s
+pub rev-lookup-label-one-answer : (c : Counts) (b : Buffers) (a : ℕ) (r s : Result (O.Option ℕ) ObjectErr) → Reversed c b a r → Reversed c b a s → r ≡ s
 rev-lookup-label-one-answer = Lookup.found-once
 
 -- THE CODE OF THE LISTING, crate `list`. Two answers that the contract of `list` allows are equal, and so are the buffers afterwards.
@@ -238,33 +235,33 @@ list-one-buffer c b len r s x y = Writing.one_buffer
 -- THE CODE OF WORDS, crates `isa` and `isa_fields`: an instruction's meaning is the rule's of the same name, and the contracts are the equations below.
 -- `encode`, then `try_disassemble_line`: the instruction, up to the names that share a word; and the other way round the word.
 pub encode-disassemble :
-    (i : AsmInstr) (r : Encoded) (w : ℕ) (d : Disassembled) → r ≡ encoded (word (meant i)) → r ≡ Bits w → meant_if d ≡ disassemble w → Shown (meant i) (meant_if d)
+    (i : AsmInstr) (r : O.Option ℕ) (w : ℕ) (d : O.Option AsmInstr) → r ≡ encoded (word (meant i)) → r ≡ Some w → meant_if d ≡ disassemble w → Shown (meant i) (meant_if d)
 encode-disassemble = Words.encode-disassemble
 
-pub disassemble-encode : (w : ℕ) (d : Disassembled) (i : AsmInstr) (r : Encoded) → meant_if d ≡ disassemble w → d ≡ D.Instr i → r ≡ encoded (word (meant i)) → r ≡ Bits w
+pub disassemble-encode : (w : ℕ) (d : O.Option AsmInstr) (i : AsmInstr) (r : O.Option ℕ) → meant_if d ≡ disassemble w → d ≡ Some i → r ≡ encoded (word (meant i)) → r ≡ Some w
 disassemble-encode = Words.disassemble-encode
 
 -- `replace_pc_offset9` and `replace_pc_offset11`: 29 exactly where the offset lies outside the field.
-pub refused-outside : (f : Range) (label pc : ℕ) (r : Replaced) → meant_offset r ≡ reach f label pc nowhere → fits f (offset label pc) ≡ false → r ≡ OffsetNewErr
+pub refused-outside : (f : Range) (label pc : ℕ) (r : Result ℕ OffsetNewErr) → meant_offset r ≡ reach f label pc nowhere → fits f (offset label pc) ≡ false → r ≡ Err CannotFitSigned
 refused-outside = FieldsOf.refused-outside
 
-pub accepted-inside : (f : Range) (label pc : ℕ) (r : Replaced) → meant_offset r ≡ reach f label pc nowhere → fits f (offset label pc) ≡ true → r ≡ Offset (offset label pc)
+pub accepted-inside : (f : Range) (label pc : ℕ) (r : Result ℕ OffsetNewErr) → meant_offset r ≡ reach f label pc nowhere → fits f (offset label pc) ≡ true → r ≡ Ok (offset label pc)
 accepted-inside = FieldsOf.accepted-inside
 
 -- Two answers that a contract allows are equal: `encode`; `try_disassemble_line`; `disassemble_line`; `replace_pc_offset9` and `11`; `low5` to `low11`.
-pub encode-one-answer : (i : AsmInstr) (r s : Encoded) → r ≡ encoded (word (meant i)) → s ≡ encoded (word (meant i)) → r ≡ s
+pub encode-one-answer : (i : AsmInstr) (r s : O.Option ℕ) → r ≡ encoded (word (meant i)) → s ≡ encoded (word (meant i)) → r ≡ s
 encode-one-answer = Words.encode-one-answer
 
-pub try-disassemble-one-answer : (w : ℕ) (r s : Disassembled) → meant_if r ≡ disassemble w → meant_if s ≡ disassemble w → r ≡ s
+pub try-disassemble-one-answer : (w : ℕ) (r s : O.Option AsmInstr) → meant_if r ≡ disassemble w → meant_if s ≡ disassemble w → r ≡ s
 try-disassemble-one-answer = Words.try-disassemble-one-answer
 
 pub disassemble-line-one-answer : (w : ℕ) (r s : Line) → meant_line r ≡ line w → meant_line s ≡ line w → r ≡ s
 disassemble-line-one-answer = Words.disassemble-line-one-answer
 
-pub offset-one-answer : (f : Range) (label pc : ℕ) (r s : Replaced) → meant_offset r ≡ reach f label pc nowhere → meant_offset s ≡ reach f label pc nowhere → r ≡ s
+pub offset-one-answer : (f : Range) (label pc : ℕ) (r s : Result ℕ OffsetNewErr) → meant_offset r ≡ reach f label pc nowhere → meant_offset s ≡ reach f label pc nowhere → r ≡ s
 offset-one-answer = FieldsOf.offset-one-answer
 
-pub value-one-answer : (f : Range) (d : ℕ) (r s : Encoded) → r ≡ encoded (R.bits (R.num f) (R.value d)) → s ≡ encoded (R.bits (R.num f) (R.value d)) → r ≡ s
+pub value-one-answer : (f : Range) (d : ℕ) (r s : O.Option ℕ) → r ≡ encoded (R.bits (R.num f) (R.value d)) → s ≡ encoded (R.bits (R.num f) (R.value d)) → r ≡ s
 value-one-answer = FieldsOf.value-one-answer
 
 -- ASSEMBLING, `asm::assemble`. What the rule accepts is a good object. What the call accepts is that object in its one layout, valid, with its counts; a refusal leaves every
@@ -463,7 +460,7 @@ stored-listing-one-answer b len r s x y p q = (Program.one_count p q, Program.on
 -- WHAT THE COMMANDS WRITE. `lc3_assemble::assemble_stored`: a source is assembled with the words that are lent, and its object stored in the lent bytes; or its refusal, with its places, or 51.
 -- Two answers that this allows are equal, and so are the words, the marks and the bytes.
 pub stored-source-one-answer :
-    (src words marks : List ℕ) (len : ℕ) (r s : StoredSource) (w v m n b d : List ℕ) → SourceStored.Told src words marks len r w m b → SourceStored.Told src words marks len s v n d → (r ≡ s) × (w ≡ v) × (m ≡ n) × (b ≡ d)
+    (src words marks : List ℕ) (len : ℕ) (r s : Result ℕ Making.Answer) (w v m n b d : List ℕ) → SourceStored.Told src words marks len r w m b → SourceStored.Told src words marks len s v n d → (r ≡ s) × (w ≡ v) × (m ≡ n) × (b ≡ d)
 stored-source-one-answer src words marks len r s w v m n b d p q =
     (SourceStored.one_answer p q, p.left_words ∙ sym q.left_words, p.left_marks ∙ sym q.left_marks, SourceStored.one_bytes p q)
 

@@ -11,7 +11,7 @@ use base_capacities::{BLOCKS, LABELS, NAME_BYTES, RELOCATIONS, WORDS};
 use base_refusals::{BAD_OBJECT, NO_WRITE_ROOM, SHORT_BUFFER};
 use object::Counts;
 use object_answer::{Answer, Written};
-use object_check::Checked;
+use object_check::ObjectErr;
 use stored_fields::{BLOCK_BYTES, HEAD_BYTES, NUMBER_BYTES};
 
 // The most bytes that a stored object takes: every word a run by itself, full tables, every name of 64 bytes. A relocation names an external, which has no address. Proved of the rule: `no-object-takes-more` on the page of promises.
@@ -87,11 +87,11 @@ pub fn store(
 ) -> Written
     ensures { Called (counts c) (six blocks.now words.now marks.now labels.now relocations.now names.now) (length bytes.old) result bytes.new }
 {
-    base_buffers::zero_u8(bytes);
+    base_buffers::clear(bytes, 0);
     match object_check::check_object(c, blocks, words, marks, labels, relocations, names) {
-        Checked::Object => store_object(c, blocks, words, marks, labels, relocations, names, bytes),
-        Checked::ShortBuffer => Written::Refused(SHORT_BUFFER),
-        Checked::BadObject => Written::Refused(BAD_OBJECT),
+        Ok(()) => store_object(c, blocks, words, marks, labels, relocations, names, bytes),
+        Err(ObjectErr::ShortBuffer) => Written::Refused(SHORT_BUFFER),
+        Err(ObjectErr::BadObject) => Written::Refused(BAD_OBJECT),
     }
 }
 
@@ -112,6 +112,6 @@ pub fn store_made(
         let c = object_answer::counts_of(answer);
         return store(c, blocks, words, marks, labels, relocations, names, bytes);
     }
-    base_buffers::zero_u8(bytes);
+    base_buffers::clear(bytes, 0);
     Written::Refused(answer.number)
 }

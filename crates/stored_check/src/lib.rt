@@ -17,6 +17,7 @@ fn check_fields(bytes: &[u8], places: &mut [usize]) -> Answer
     ensures { meant result ≡ answer (rule.check bytes.now) }
 {
     let mut w = stored_walk::begin();
+    // A loop: each turn passes fields, and the bytes say where they end.
     loop {
         match stored_walk::step(bytes, places, w) {
             Walked::On(next) => {

@@ -5,7 +5,7 @@ use mathlib.Core.List.{List, [], ◌∷◌, ◌++◌}
 use native.Mathlib.Numerals.{add-one}
 use native.Mathlib.Omega.{arith}
 use lib.ListN.{length, take, set, get_or, length-set}
-use lib.Seq.{set_split, take-suc, take-length}
+use lib.Seq.{set_split, take-suc}
 use Rattle.rules.specs.Stored.{pair, pairs}
 use Rattle.list_lines.specs.Appended.{written, Appended}
 use Rattle.list_lines.proofs.Appending.{appended-none, appended-more}
@@ -41,27 +41,16 @@ pairs-append : (us ws : List ℕ) → pairs (us ++ ws) ≡ pairs us ++ pairs ws
 pairs-append [] ws = refl
 pairs-append (u ∷ us) ws = ap (λ (l : List ℕ). u / 256 ∷ u % 256 ∷ l) (pairs-append us ws)
 
+-- the first i of the words, from `at` up to `end`
 pub record Worded (b₀ b : List ℕ) (at end : ℕ) (ws : List ℕ) (i : ℕ) : Type 0 where
   pub here : Appended b₀ b at end (pairs (take i ws))
-  pub within : i ≤ length ws
   pub next : end ≡ at + i * 2
-  pub size : length b ≡ length b₀
 
 module _ {b₀ : List ℕ} {at : ℕ} {ws : List ℕ} where
   pub worded-none : at + length ws * 2 ≤ length b₀ → Worded b₀ b₀ at at ws 0
-  worded-none h = record { here = appended-none b₀ at (omega arith); within = omega arith; next = omega arith; size = refl }
+  worded-none h = record { here = appended-none b₀ at (omega arith); next = omega arith }
 
-  pub worded-more : {b : List ℕ} {end i : ℕ} → Worded b₀ b at end ws i → at + length ws * 2 ≤ length b₀ → i < length ws
-      → Worded b₀ (set (set b end (get_or ws i 0 / 256)) (end + 1) (get_or ws i 0 % 256)) at (end + 2) ws (i + 1)
-  worded-more {b} {end} {i} p h l =
-      let q = two_bytes b end (get_or ws i 0 / 256) (get_or ws i 0 % 256) (omega (arith, p.next, p.size)) in
-      let e : pairs (take (i + 1) ws) ≡ pairs (take i ws) ++ pair (get_or ws i 0) = rw (add-one i, take-suc ws i 0) (pairs-append (take i ws) (get_or ws i 0 ∷ [])) in
-      record {
-        here = rw e (appended-more p.here q);
-        within = omega arith;
-        next = omega (arith, p.next);
-        size = q.size ∙ p.size;
-      }
-
-  pub worded-all : {b : List ℕ} {end i : ℕ} → Worded b₀ b at end ws i → length ws ≤ i → Appended b₀ b at end (pairs ws)
-  worded-all {b} {end} {i} p l = let e : i ≡ length ws = omega (arith, p.within) in let t : take i ws ≡ ws = rw e (take-length ws) in rw t at p.here
+  pub worded-more : {b c : List ℕ} {end e i : ℕ} → Worded b₀ b at end ws i → Appended b c end e (pair (get_or ws i 0)) → i < length ws → Worded b₀ c at e ws (i + 1)
+  worded-more {b} {c} {end} {e} {i} p q l =
+      let t : pairs (take (i + 1) ws) ≡ pairs (take i ws) ++ pair (get_or ws i 0) = rw (add-one i, take-suc ws i 0) (pairs-append (take i ws) (get_or ws i 0 ∷ [])) in
+      record { here = rw t (appended-more p.here q); next = omega (arith, p.next, q.stop) }

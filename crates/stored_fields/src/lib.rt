@@ -65,15 +65,9 @@ pub fn put_words(out: &mut [u8], at: usize, words: &[u16]) -> usize
     requires { at + length words.now * 2 ≤ length out.old }
     ensures { Appended out.old out.new at result (pairs words.now) }
 {
-    let mut i = 0;
     let mut end = at;
-    while i < words.len() {
-        let word = words[i];
-        let next = end + 1;
-        out[end] = (word / BYTE) as u8;
-        out[next] = (word % BYTE) as u8;
-        end += NUMBER_BYTES;
-        i += 1;
+    for word in words {
+        end = put_number(out, end, *word);
     }
     end
 }

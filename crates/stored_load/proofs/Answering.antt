@@ -1,28 +1,26 @@
 -- What a load answers and leaves. Assumes nothing.
+use Rattle.std.specs.Prelude.{Result, Ok, Err}
 use mathlib.Core.Path.{◌≡◌, refl, sym, ◌∙◌, ap}
 use mathlib.Core.Bool.{true, false}
 use mathlib.Core.List.{List, []}
-use Prim.Native.Nat.{ℕ, ◌≤◌, ◌<◌}
+use Prim.Native.Nat.{ℕ, ◌≤◌}
 use native.Mathlib.Omega.{arith}
 use native.Mathlib.Decide.{dec_le}
-use lib.ListN.{length, length-replicate}
+use lib.ListN.{length}
 use Rattle.rules.specs.Base.{when◌then◌else◌, ok, refuse, nowhere, offset_at}
 use Rattle.rules.specs.Answers as rule
 use Rattle.rules.specs.Objects as Objects
 use Rattle.rules.specs.Objects.{Object, nothing, counts_of}
-use Rattle.rules.specs.Buffers.{Buffers, short, lent_words, zeros, lay_blocks, lay_words, lay_marks, lay_labels, lay_relocs, lay_names, layout}
+use Rattle.rules.specs.Buffers.{Buffers, short, lent_words, lay_blocks, lay_words, lay_marks, lay_labels, lay_relocs, lay_names, layout}
 use Rattle.rules.specs.Stored.{load}
 use Rattle.rules.specs.Calls.{of_bytes}
 use Rattle.rules.proofs.Rows.{length-lay}
-use Rattle.rules.proofs.Bools.{never}
 use Rattle.laws_stored.proofs.Checking.{load-fifty, load-whole, load-no-room}
 use Rattle.object.specs.declared.Counts.{Counts}
 use Rattle.object.specs.Meaning.{counts}
 use Rattle.object_answer.specs.declared.Answer.{Answer}
-use Rattle.object_answer.specs.Meant.{meant, accepting, Leaves}
+use Rattle.object_answer.specs.Meant.{meant, Leaves}
 use Rattle.object_answer.proofs.Leaving.{leaves-refused}
-use Rattle.stored_load.specs.declared.Filled.{Filled}
-use Rattle.stored_load.specs.declared.Filled.TheVariants.{Whole, Broken}
 use Rattle.stored_load.specs.Filling.{Lengths, Lent, Came, Refuses, Settles}
 use Rattle.stored_load.specs.Call.{called, Loaded}
 
@@ -54,11 +52,7 @@ module _ {room : ℕ} {out x : Buffers} (l : Lent room out) (e : x ≡ layout no
   pub cleared-clear : x ≡ layout nothing x
   cleared-clear = e ∙ sym (layout-same (cleared-lengths out x e) nothing)
 
--- an array of 1,024 zeros holds the places of labels
-pub places-long : 1024 ≤ length (zeros 1024)
-places-long = rw (length-replicate {A = ℕ} 1024 0) (omega arith)
-
-pub came-after : {b : List ℕ} {room : ℕ} {out x y : Buffers} {r : Filled} → x ≡ layout nothing out → Came b room x y r → Came b room out y r
+pub came-after : {b : List ℕ} {room : ℕ} {out x y : Buffers} {r : Result Counts ℕ} → x ≡ layout nothing out → Came b room x y r → Came b room out y r
 came-after {out = out} {x = x} e c =
     let d = cleared-lengths out x e in
     record {
@@ -75,25 +69,6 @@ came-after {out = out} {x = x} e c =
           record { object = f.object; checked = f.checked; counted = f.counted; laid = λ h. f.laid h ∙ layout-same d f.object });
       broken = c.broken;
     }
-
--- ANSWERED
-
-pub settles-fits : {f : Filled} {room : ℕ} {x : Buffers} {r : Answer} {c : Counts} → f ≡ Whole c → c.words ≤ room → r ≡ accepting c → Settles f room x r x
-settles-fits {c = c} g h e = record {
-  fits = λ d q l. (let z : c ≡ d = cc in rw (← z) (record { answer = e; buffers = refl }));
-  not = λ d q l. (let z : c ≡ d = cc in absurd (omega (arith, ap (λ (k : Counts). k.words) z)));
-  broken = λ k q. never cc;
-}
-
-pub settles-not : {f : Filled} {room : ℕ} {x y : Buffers} {r : Answer} {c : Counts} → f ≡ Whole c → room < c.words → Refuses 41 0 x r y → Settles f room x r y
-settles-not {c = c} g h e = record {
-  fits = λ d q l. (let z : c ≡ d = cc in absurd (omega (arith, ap (λ (k : Counts). k.words) z)));
-  not = λ d q l. e;
-  broken = λ k q. never cc;
-}
-
-pub settles-broken : {f : Filled} {room : ℕ} {x y : Buffers} {r : Answer} {k : ℕ} → f ≡ Broken k → Refuses 50 k x r y → Settles f room x r y
-settles-broken {k = k} g e = record { fits = λ d q l. never cc; not = λ d q l. never cc; broken = λ j q. (let z : k ≡ j = cc in rw (← z) e) }
 
 -- THE CALL
 
@@ -112,11 +87,11 @@ refused-leaves n k out r z h = leaves-refused n k k 0 0 out z h.buffers r h.answ
 refused-after : {n k : ℕ} {out y z : Buffers} {r : Answer} → Lengths out y → Refuses n k y r z → Refuses n k out r z
 refused-after l h = record { answer = h.answer; buffers = h.buffers ∙ layout-same l nothing }
 
-module _ {b : List ℕ} {room : ℕ} {out y z : Buffers} {f : Filled} {r : Answer} (full : short out ≡ false) (lent : room ≡ lent_words out.words out.marks) (c : Came b room out y f) (s : Settles f room y r z) where
+module _ {b : List ℕ} {room : ℕ} {out y z : Buffers} {f : Result Counts ℕ} {r : Answer} (full : short out ≡ false) (lent : room ≡ lent_words out.words out.marks) (c : Came b room out y f) (s : Settles f room y r z) where
   words_of : (k : Counts) (o : Object) → counts k ≡ counts_of o → k.words ≡ (counts_of o).words
   words_of k o e = ap (λ (d : Objects.Counts). d.words) e
 
-  whole-loaded : (k : Counts) → f ≡ Whole k → Dec (k.words ≤ room) → Loaded out b r z
+  whole-loaded : (k : Counts) → f ≡ Ok k → Dec (k.words ≤ room) → Loaded out b r z
   unfolding rule.answer
   whole-loaded k e (yes h) =
       let u = c.filled k e in
@@ -128,7 +103,7 @@ module _ {b : List ℕ} {room : ℕ} {out y z : Buffers} {f : Filled} {r : Answe
       let q : called out b ≡ refuse 41 (offset_at 0) = called-long out b full ∙ load-no-room (lent_words out.words out.marks) b u.object u.checked (omega (arith, words_of k u.object u.counted)) in
       rw q (refused-leaves 41 0 out r z (refused-after c.lengths (s.not k e (omega arith))))
 
-  broken-loaded : (k : ℕ) → f ≡ Broken k → Loaded out b r z
+  broken-loaded : (k : ℕ) → f ≡ Err k → Loaded out b r z
   broken-loaded k e =
       let q : called out b ≡ refuse 50 (offset_at k) = called-long out b full ∙ load-fifty (lent_words out.words out.marks) b k (c.broken k e) in
       rw q (refused-leaves 50 k out r z (refused-after c.lengths (s.broken k e)))
@@ -136,9 +111,9 @@ module _ {b : List ℕ} {room : ℕ} {out y z : Buffers} {f : Filled} {r : Answe
   pub settled : Loaded out b r z
   settled = go f refl
     where
-      go : (g : Filled) → f ≡ g → Loaded out b r z
-      go (Whole k) e = whole-loaded k e (dec_le k.words room)
-      go (Broken k) e = broken-loaded k e
+      go : (g : Result Counts ℕ) → f ≡ g → Loaded out b r z
+      go (Ok k) e = whole-loaded k e (dec_le k.words room)
+      go (Err k) e = broken-loaded k e
 
 pub too_short : (b : List ℕ) {out z : Buffers} {r : Answer} → short out ≡ true → Refuses 42 0 out r z → Loaded out b r z
 too_short b {out} {z} {r} e h =

@@ -1,4 +1,5 @@
 -- What the loop over fields keeps, and each way through its body. Assumes nothing.
+use Rattle.std.specs.Prelude.{Ok, Err}
 use mathlib.Core.Path.{◌≡◌, refl, ◌∙◌, ap}
 use mathlib.Core.Bool.{false}
 use mathlib.Core.List.{List}
@@ -22,7 +23,6 @@ use Rattle.stored_put.specs.Laid.{Laid, Meets, Met, Puts}
 use Rattle.stored_put.proofs.Growing.{laid-begin, laid-whole}
 use Rattle.stored_put.proofs.Meeting.{words-rise}
 use Rattle.stored_put_labels.specs.Putting.{Roomy, PutRun}
-use Rattle.stored_load.specs.declared.Filled.TheVariants as filled
 use Rattle.stored_load.specs.Filling.{Lengths, Fitting, PutFitting, Fillable, Fills, Came}
 
 -- A FIELD THAT FITS, OR NOT
@@ -85,9 +85,6 @@ module _ {b noted places : List ℕ} {room : ℕ} {out : Buffers} {bs ws ms ls r
       }
 
 module _ {b noted places : List ℕ} {room : ℕ} {out : Buffers} {bs ws ms ls rs ns : List ℕ} {w : Walk} (f : Filling b noted places room out (six bs ws ms ls rs ns) w) where
-  pub filling-going : Going b places w
-  filling-going = record { state = f.state; tells = f.tells }
-
   module _ (after : List ℕ) (r : Walked) (m : (length after ≡ length places) × ((s : State) → Tells b places w s → Steps b after w s r)) where
     -- a field that may follow
     module _ {n : Walk} (e : r ≡ On n) where
@@ -159,11 +156,11 @@ module _ {b noted places : List ℕ} {room : ℕ} {out : Buffers} {bs ws ms ls r
         laid = λ h. laid-whole f.state out (six bs ws ms ls rs ns) (f.laid (fits h)) whole.closed (f.tells.shut whole.closed);
       }
 
-      pub filling-whole : Came b room out (six bs ws ms ls rs ns) (filled.Whole c)
+      pub filling-whole : Came b room out (six bs ws ms ls rs ns) (Ok c)
       filling-whole = record { lengths = f.lengths; filled = λ d q. (let z : c ≡ d = cc in rw (← z) fills); broken = λ k q. never cc }
 
     -- 50
-    pub filling-broken : {k : ℕ} → r ≡ Broken k → Came b room out (six bs ws ms ls rs ns) (filled.Broken k)
+    pub filling-broken : {k : ℕ} → r ≡ Broken k → Came b room out (six bs ws ms ls rs ns) (Err k)
     unfolding Steps
     filling-broken {k} e =
         let h : check b ≡ refuse 50 (offset_at k) = rw e at (m.1 f.state f.tells) in

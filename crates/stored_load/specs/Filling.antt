@@ -1,5 +1,5 @@
 -- Six cleared buffers filled field by field, and what came of it. Assumes nothing.
-use Rattle.std.specs.Prelude.{◌≡◌, false, List, ℕ, ◌≤◌, ◌<◌, length}
+use Rattle.std.specs.Prelude.{◌≡◌, false, List, ℕ, ◌≤◌, ◌<◌, length, Result, Ok, Err}
 use Rattle.rules.specs.Base.{ok, refuse, offset_at}
 use Rattle.rules.specs.Capacities.{label_room}
 use Rattle.rules.specs.Objects.{Object, nothing, counts_of}
@@ -11,8 +11,6 @@ use Rattle.object_answer.specs.declared.Answer.{Answer}
 use Rattle.object_answer.specs.Meant.{accepting, refusing}
 use Rattle.stored_walk.specs.declared.Walk.{Walk}
 use Rattle.stored_put.specs.Laid.{Met, Puts}
-use Rattle.stored_load.specs.declared.Filled.{Filled}
-use Rattle.stored_load.specs.declared.Filled.TheVariants.{Whole, Broken}
 
 -- buffers of the same lengths
 pub record Lengths (out x : Buffers) : Type 0 where
@@ -50,10 +48,10 @@ pub record Fills (b : List ℕ) (room : ℕ) (out now : Buffers) (c : Counts) : 
   pub laid : c.words ≤ room → now ≡ layout object out
 
 -- or they are none
-pub record Came (b : List ℕ) (room : ℕ) (out now : Buffers) (r : Filled) : Type 0 where
+pub record Came (b : List ℕ) (room : ℕ) (out now : Buffers) (r : Result Counts ℕ) : Type 0 where
   pub lengths : Lengths out now
-  pub filled : (c : Counts) → r ≡ Whole c → Fills b room out now c
-  pub broken : (k : ℕ) → r ≡ Broken k → check b ≡ refuse 50 (offset_at k)
+  pub filled : (c : Counts) → r ≡ Ok c → Fills b room out now c
+  pub broken : (k : ℕ) → r ≡ Err k → check b ≡ refuse 50 (offset_at k)
 
 -- WHAT IS ANSWERED, and what is left of buffers x
 
@@ -66,7 +64,7 @@ pub record Accepts (c : Counts) (x : Buffers) (r : Answer) (y : Buffers) : Type 
   pub buffers : y ≡ x
 
 -- of an object that fits, of one that does not, and of bytes that are none
-pub record Settles (f : Filled) (room : ℕ) (x : Buffers) (r : Answer) (y : Buffers) : Type 0 where
-  pub fits : (c : Counts) → f ≡ Whole c → c.words ≤ room → Accepts c x r y
-  pub not : (c : Counts) → f ≡ Whole c → room < c.words → Refuses 41 0 x r y
-  pub broken : (k : ℕ) → f ≡ Broken k → Refuses 50 k x r y
+pub record Settles (f : Result Counts ℕ) (room : ℕ) (x : Buffers) (r : Answer) (y : Buffers) : Type 0 where
+  pub fits : (c : Counts) → f ≡ Ok c → c.words ≤ room → Accepts c x r y
+  pub not : (c : Counts) → f ≡ Ok c → room < c.words → Refuses 41 0 x r y
+  pub broken : (k : ℕ) → f ≡ Err k → Refuses 50 k x r y

@@ -12,13 +12,6 @@ use object_answer::{Answer, refusal};
 use stored_put::put_field;
 use stored_walk::{Walk, Walked};
 
-// What the fields make: an object, which stands in the buffers if its words fit; or 50 at an offset.
-#[derive(Clone, Copy)]
-enum Filled {
-    Whole(Counts),
-    Broken(usize),
-}
-
 // A field is put where the words up to behind it fit.
 fn put_fitting(
     bytes: &[u8],
@@ -50,7 +43,7 @@ fn put_fitting(
     }
 }
 
-// The fields of bytes into cleared buffers. Where words do not fit they are not put, and the fields are looked at to the end: 50 goes before 41.
+// The fields of bytes into cleared buffers: the counts of an object, which stands in the buffers if its words fit, or the offset of 50. Where words do not fit they are not put, and the fields are looked at to the end: 50 goes before 41.
 fn fill(
     bytes: &[u8],
     places: &mut [usize],
@@ -61,11 +54,12 @@ fn fill(
     labels: &mut [u32],
     relocations: &mut [u32],
     names: &mut [u8],
-) -> Filled
+) -> Result<Counts, usize>
     requires { Fillable places.old room (six blocks.old words.old marks.old labels.old relocations.old names.old) }
     ensures { Came bytes.now room (six blocks.old words.old marks.old labels.old relocations.old names.old) (six blocks.new words.new marks.new labels.new relocations.new names.new) result }
 {
     let mut w = stored_walk::begin();
+    // A loop: each turn passes fields, and the bytes say where they end.
     loop {
         match stored_walk::step(bytes, places, w) {
             Walked::On(next) => {
@@ -84,10 +78,10 @@ fn fill(
                 w = stored_put_labels::put_run(bytes, places, next, room, labels, names);
             }
             Walked::Ended(c) => {
-                return Filled::Whole(c);
+                return Ok(c);
             }
             Walked::Broken(at) => {
-                return Filled::Broken(at);
+                return Err(at);
             }
         }
     }
@@ -103,7 +97,7 @@ fn read_fields(
     labels: &mut [u32],
     relocations: &mut [u32],
     names: &mut [u8],
-) -> Filled
+) -> Result<Counts, usize>
     requires { Lent room (six blocks.old words.old marks.old labels.old relocations.old names.old) }
     ensures { Came bytes.now room (six blocks.old words.old marks.old labels.old relocations.old names.old) (six blocks.new words.new marks.new labels.new relocations.new names.new) result }
 {
@@ -141,7 +135,7 @@ fn refuse(
 
 // What is answered of the fields: 50, then 41.
 fn settle(
-    filled: Filled,
+    filled: Result<Counts, usize>,
     room: usize,
     blocks: &mut [u16],
     words: &mut [u16],
@@ -153,13 +147,13 @@ fn settle(
     ensures { Settles filled room (six blocks.old words.old marks.old labels.old relocations.old names.old) result (six blocks.new words.new marks.new labels.new relocations.new names.new) }
 {
     match filled {
-        Filled::Whole(c) => {
+        Ok(c) => {
             if c.words <= room {
                 return object_answer::acceptance(c);
             }
             refuse(NO_ROOM, 0, blocks, words, marks, labels, relocations, names)
         }
-        Filled::Broken(at) => refuse(
+        Err(at) => refuse(
             BAD_FIELD,
             at,
             blocks,

@@ -1,14 +1,15 @@
--- What the loop that puts words keeps, and rows whose cells are known. Assumes nothing.
+-- What the loops that put words keep, and rows whose cells are known. Assumes nothing.
 use mathlib.Core.Path.{◌≡◌, refl, sym, ◌∙◌, ap}
 use mathlib.Core.List.{List, ◌++◌}
 use Prim.Native.Nat.{ℕ, zero, suc, ◌+◌, ◌-◌, ◌*◌, ◌/◌, ◌%◌, ◌≤◌, ◌<◌}
 use native.Mathlib.Omega.{arith}
-use lib.ListN.{length, take, drop, get_or, set, length-take, length-replicate}
-use lib.Seq.{paste, drop-cons, length_paste_head, take-paste, drop-paste, get_or_at, get_or-append-add, get_or-take, take-take, take_at, length-take-le, ext_get_or}
+use lib.ListN.{length, take, drop, get_or, replicate, length-take, length-drop, length-replicate}
+use lib.Seq.{paste, take-paste, drop-paste, get_or-append-add, get_or-take, get_or-drop, take-take, take_at, length-take-le, ext_get_or}
+use borrow.Rule.Slice.PartMut.{put_mid}
+use Rattle.std.proofs.lemmas.Slice.{put_mid-paste}
 use Rattle.laws_stored.specs.Offsets.{number_at, numbers_at, part_at}
 use Rattle.laws_stored.proofs.Contents.{length-numbers}
 use Rattle.base_buffers.specs.Rows.{with_row}
-use Rattle.base_buffers.proofs.Pasted.{Pasted, pasted-none, pasted-more, pasted-all}
 use Rattle.object_layout_labels.specs.Laying.{RowRoom, PutLabel}
 use Rattle.stored_put.specs.Laid.{ones, turned, turned_numbers, turned_from, PutWords, WordRoom, LabelRoom, Labelled}
 
@@ -40,12 +41,6 @@ pub length-ones : (n : ℕ) → length (ones n) ≡ n
 unfolding ones
 length-ones n = length-replicate n 1
 
-get_or-ones : (n k : ℕ) → k < n → ◌≡◌ {A = ℕ} (get_or (ones n) k 0) 1
-unfolding ones
-get_or-ones zero k l = absurd (omega arith)
-get_or-ones (suc n) zero l = refl
-get_or-ones (suc n) (suc k) l = get_or-ones n k (omega arith)
-
 -- NUMBERS WHOSE BYTES CHANGED PLACES
 
 length-turned : (b : List ℕ) (i n : ℕ) → length (turned_numbers b i n) ≡ n
@@ -70,12 +65,7 @@ get_or-from ws i zero k l = absurd (omega arith)
 get_or-from ws i (suc n) zero l = let e : i + 0 ≡ i = omega arith in rw e refl
 get_or-from ws i (suc n) (suc k) l = let e : i + suc k ≡ i + 1 + k = omega arith in rw e (get_or-from ws (i + 1) n k (omega arith))
 
--- what is not yet pasted stands as it did, and what is pasted stands there
-get_or-behind : (d : List ℕ) (at : ℕ) (s : List ℕ) (i : ℕ) → at + i < length d → i ≤ length s → get_or (paste d at s i) (at + i) 0 ≡ get_or d (at + i) 0
-get_or-behind d at s i l h =
-    let e = length_paste_head d at s i (omega arith) h in
-    ap (λ (r : List ℕ). get_or (take at d ++ take i s ++ r) (at + i) 0) (drop-cons d (at + i) 0 l) ∙ get_or_at (take at d ++ take i s) (get_or d (at + i) 0) (drop (suc (at + i)) d) 0 (at + i) e
-
+-- what is pasted stands there
 get_or-pasted : (d : List ℕ) (at : ℕ) (s : List ℕ) (n k : ℕ) → at + n ≤ length d → length s ≡ n → k < n → get_or (paste d at s n) (at + k) 0 ≡ get_or s k 0
 get_or-pasted d at s n k l e h =
     let a = length-take-le at d (omega arith) in
@@ -95,51 +85,39 @@ paste-over d at s t n l h =
     let b = drop-paste d at s n (omega arith) h in
     rw (a, b) refl
 
--- THE LOOPS: a list of n numbers is pasted from place `at` on
+-- THE LOOPS, over a part of the words
 
-pub record Filling (d₀ : List ℕ) (at : ℕ) (s : List ℕ) (n : ℕ) (d : List ℕ) (i : ℕ) : Type 0 where
-  pub pasted : Pasted d₀ at s d i
-  pub long : length s ≡ n
-  pub room : at + n ≤ length d₀
-  pub within : i ≤ n
-  pub size : length d ≡ length d₀
+-- the first i are numbers with their bytes changed
+abbrev pub Copying : (b : List ℕ) (start : ℕ) (ws : List ℕ) (i : ℕ) → Type 0
+Copying b start ws i = (k : ℕ) → k < i → get_or ws k 0 ≡ get_or b (start + k * 2) 0 + get_or b (start + k * 2 + 1) 0 * 256
 
-filling-none : (d : List ℕ) (at : ℕ) (s : List ℕ) (n : ℕ) → length s ≡ n → at + n ≤ length d → Filling d at s n d 0
-filling-none d at s n e r = record { pasted = pasted-none d at s; long = e; room = r; within = omega arith; size = refl }
+-- the bytes of the first i have changed places
+pub record Turning (ws₀ ws : List ℕ) (i : ℕ) : Type 0 where
+  pub done : (k : ℕ) → k < i → get_or ws k 0 ≡ turned (get_or ws₀ k 0)
+  pub rest : (k : ℕ) → i ≤ k → get_or ws k 0 ≡ get_or ws₀ k 0
 
-filling-more : (d₀ : List ℕ) (at : ℕ) (s : List ℕ) (n : ℕ) (d : List ℕ) (i x : ℕ) → Filling d₀ at s n d i → i < n → x ≡ get_or s i 0 → Filling d₀ at s n (set d (at + i) x) (i + 1)
-filling-more d₀ at s n d i x f l e =
-    let p = pasted-more f.pasted (omega (arith, f.long, f.room)) (omega (arith, f.long)) in
-    let q : Pasted d₀ at s (set d (at + i) x) (i + 1) = rw (sym e) at p in
-    record { pasted = q; long = f.long; room = f.room; within = omega arith; size = q.size }
+-- and at their end, where the part of n words from `at` on is written back
+module _ (d part : List ℕ) (at n i : ℕ) (r : at + n ≤ length d) (z : length part ≡ length (take (at + n - at) (drop at d))) (l : length part ≤ i) where
+  part_size : length part ≡ n
+  part_size = omega (arith, length-take (at + n - at) (drop at d), length-drop at d)
 
-pub filling-all : {d₀ : List ℕ} {at : ℕ} {s : List ℕ} {n : ℕ} {d : List ℕ} {i : ℕ} → Filling d₀ at s n d i → n ≤ i → d ≡ paste d₀ at s n
-filling-all {d₀} {at} {s} f l = let e = f.long in rw e at (pasted-all f.pasted (omega arith))
+  written : (s : List ℕ) → length s ≡ n → ((k : ℕ) → k < n → get_or part k 0 ≡ get_or s k 0) → put_mid at (at + n - at) d part ≡ paste d at s n
+  written s e h = put_mid-paste at (at + n - at) d part s n (ext_get_or 0 part s (part_size ∙ sym e) (λ k m. h k (omega (arith, part_size)))) (omega arith) (sym e)
 
--- numbers with their bytes changed
-pub turned_none : (b : List ℕ) (start n : ℕ) (ws : List ℕ) (at : ℕ) → at + n ≤ length ws → Filling ws at (turned_numbers b start n) n ws 0
-turned_none b start n ws at r = filling-none ws at (turned_numbers b start n) n (length-turned b start n) r
+  pub copied-all : (b : List ℕ) (start : ℕ) → Copying b start part i → put_mid at (at + n - at) d part ≡ paste d at (turned_numbers b start n) n
+  copied-all b start h = written (turned_numbers b start n) (length-turned b start n) (λ k m. h k (omega (arith, part_size)) ∙ sym (get_or-turned b start n k m))
 
-pub turned_more : (b : List ℕ) (start : ℕ) {n : ℕ} {ws₀ ws : List ℕ} {at i x y : ℕ} → Filling ws₀ at (turned_numbers b start n) n ws i → i < n → x ≡ get_or b (start + i * 2) 0 → y ≡ get_or b (start + i * 2 + 1) 0
-    → Filling ws₀ at (turned_numbers b start n) n (set ws (at + i) (x + y * 256)) (i + 1)
-turned_more b start {n} {ws₀} {ws} {at} {i} {x} {y} f l e g = filling-more ws₀ at (turned_numbers b start n) n ws i (x + y * 256) f l (rw (e, g) (sym (get_or-turned b start n i l)))
+  pub turned-all : Turning (take (at + n - at) (drop at d)) part i → put_mid at (at + n - at) d part ≡ paste d at (turned_from d at n) n
+  turned-all h = written (turned_from d at n) (length_from d at n) (λ k m.
+      h.done k (omega (arith, part_size))
+      ∙ ap turned (get_or-take (at + n - at) (drop at d) k 0 (omega arith) ∙ get_or-drop at d k 0)
+      ∙ sym (get_or-from d at n k m))
 
--- words with their bytes changed
-pub turn-none : (ws : List ℕ) (at n : ℕ) → at + n ≤ length ws → Filling ws at (turned_from ws at n) n ws 0
-turn-none ws at n r = filling-none ws at (turned_from ws at n) n (length_from ws at n) r
-
-pub turn_more : {ws₀ ws : List ℕ} {at n i x : ℕ} → Filling ws₀ at (turned_from ws₀ at n) n ws i → i < n → x ≡ get_or ws (at + i) 0 → Filling ws₀ at (turned_from ws₀ at n) n (set ws (at + i) (x % 256 * 256 + x / 256)) (i + 1)
-turn_more {ws₀} {ws} {at} {n} {i} {x} f l e =
-    let a : get_or ws (at + i) 0 ≡ get_or ws₀ (at + i) 0 =
-    ap (λ (d : List ℕ). get_or d (at + i) 0) f.pasted.here ∙ get_or-behind ws₀ at (turned_from ws₀ at n) i (omega (arith, f.room)) f.pasted.within in
-    filling-more ws₀ at (turned_from ws₀ at n) n ws i (x % 256 * 256 + x / 256) f l (ap turned (e ∙ a) ∙ sym (get_or-from ws₀ at n i l))
-
--- marks
-pub marks-none : (ms : List ℕ) (at n : ℕ) → at + n ≤ length ms → Filling ms at (ones n) n ms 0
-marks-none ms at n r = filling-none ms at (ones n) n (length-ones n) r
-
-pub marks-more : {ms₀ ms : List ℕ} {at n i : ℕ} → Filling ms₀ at (ones n) n ms i → i < n → Filling ms₀ at (ones n) n (set ms (at + i) 1) (i + 1)
-marks-more {ms₀} {ms} {at} {n} {i} f l = filling-more ms₀ at (ones n) n ms i 1 f l (sym (get_or-ones n i l))
+pub marked-all : (d part : List ℕ) (at n : ℕ) → at + n ≤ length d → part ≡ replicate (length (take (at + n - at) (drop at d))) 1 → put_mid at (at + n - at) d part ≡ paste d at (ones n) n
+unfolding ones
+marked-all d part at n r e =
+    let m : length (take (at + n - at) (drop at d)) ≡ n = omega (arith, length-take (at + n - at) (drop at d), length-drop at d) in
+    put_mid-paste at (at + n - at) d part (replicate n 1) n (rw m at e) (omega arith) (sym (length-replicate n 1))
 
 -- WORDS: turned twice they are the numbers
 back : (x y : ℕ) → x < 256 → turned (x + y * 256) ≡ x * 256 + y

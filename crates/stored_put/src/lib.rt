@@ -9,7 +9,6 @@ ghost use Rattle.base_buffers.specs.Rows.{with_row};
 ghost use Rattle.stored_put.specs.Laid.{ones, turned_numbers, turned_from, PutWords, WordRoom, LabelRoom, Labelled, Met, Puts};
 
 use base_capacities::{DEFINED, EXTERNAL, SET};
-use base_casts::{narrow, word8, word32};
 use object_layout_labels::{NO_ADDRESS, put_label};
 use stored_fields::{
     BLOCK, DEFINED_LABEL, EXTERNAL_LABEL, HEAD_BYTES, NUMBER_BYTES, RELOCATION, SET_WORDS,
@@ -24,7 +23,7 @@ fn put_block(bytes: &[u8], start: usize, blocks: &mut [u16], k: usize)
 {
     let first = number_at(bytes, start);
     let count = number_at(bytes, start + NUMBER_BYTES);
-    base_buffers::row_u16(blocks, k, first, count);
+    base_buffers::row(blocks, k, first, count);
 }
 
 // How many values a byte has.
@@ -35,12 +34,10 @@ fn put_turned(bytes: &[u8], start: usize, n: usize, words: &mut [u16], at: usize
     requires { (start + n + n ≤ length bytes.now) × (at + n ≤ length words.old) }
     ensures { words.new ≡ paste words.old at (turned_numbers bytes.now start n) n }
 {
-    let mut i = 0;
-    while i < n {
+    for (i, word) in words[at..at + n].iter_mut().enumerate() {
         let first = start + i * NUMBER_BYTES;
         let second = first + 1;
-        words[at + i] = word8(bytes[first]) + word8(bytes[second]) * BYTE;
-        i += 1;
+        *word = u16::from(bytes[first]) + u16::from(bytes[second]) * BYTE;
     }
 }
 
@@ -49,12 +46,8 @@ fn turn(words: &mut [u16], at: usize, n: usize)
     requires { at + n ≤ length words.old }
     ensures { words.new ≡ paste words.old at (turned_from words.old at n) n }
 {
-    let mut i = 0;
-    while i < n {
-        let k = at + i;
-        let word = words[k];
-        words[k] = word % BYTE * BYTE + word / BYTE;
-        i += 1;
+    for word in &mut words[at..at + n] {
+        *word = *word % BYTE * BYTE + *word / BYTE;
     }
 }
 
@@ -63,11 +56,7 @@ fn put_marks(marks: &mut [u8], at: usize, n: usize)
     requires { at + n ≤ length marks.old }
     ensures { marks.new ≡ paste marks.old at (ones n) n }
 {
-    let mut i = 0;
-    while i < n {
-        marks[at + i] = SET;
-        i += 1;
-    }
+    marks[at..at + n].fill(SET);
 }
 
 // x02: n words, each marked as set, from word `at` on. Three loops of which each does one thing go faster than one.
@@ -93,7 +82,7 @@ pub fn put_defined(
     requires { (start + 2 ≤ length bytes.now) × LabelRoom labels.old names.old k at (end - (start + 2)) }
     ensures { Labelled labels.old names.old labels.new names.new k at (number_at bytes.now start) 0 (part_at bytes.now (start + 2) (end - (start + 2))) }
 {
-    let address = word32(number_at(bytes, start));
+    let address = u32::from(number_at(bytes, start));
     let name = part_of(bytes, start + NUMBER_BYTES, end);
     put_label(labels, names, k, at, address, DEFINED, name);
 }
@@ -120,8 +109,8 @@ fn put_relocation(bytes: &[u8], start: usize, relocations: &mut [u32], k: usize,
     requires { (start + 2 ≤ length bytes.now) × (k * 2 + 1 < length relocations.old) × (row ≤ 262144) }
     ensures { relocations.new ≡ with_row relocations.old k (number_at bytes.now start) row }
 {
-    let address = word32(number_at(bytes, start));
-    base_buffers::row_u32(relocations, k, address, narrow(row));
+    let address = u32::from(number_at(bytes, start));
+    base_buffers::row(relocations, k, address, row as u32);
 }
 
 // A field that may follow what was read, by its tag. Where words are unset the buffers are zero already.

@@ -51,9 +51,8 @@ fn put_from(
 {
     let mut at = w.at;
     let mut last = at;
-    let mut k = 0;
     let mut named = 0;
-    while k < LABELS {
+    for k in 0..LABELS {
         let end = label_end(bytes, last, at);
         if end == at {
             return behind_labels(w, at, k, named);
@@ -63,9 +62,8 @@ fn put_from(
         last = name_start(bytes, at);
         named += end - last;
         at = end;
-        k += 1;
     }
-    behind_labels(w, at, k, named)
+    behind_labels(w, at, LABELS, named)
 }
 
 // The fields of labels that follow, if these are the first and the words up to there fit; the step that comes next answers of the field where they stop.

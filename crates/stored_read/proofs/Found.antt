@@ -1,13 +1,13 @@
 -- The field at a position as the code tells it, the parts of the bytes, and what the code's answer says of the rules' field. Assumes nothing.
-use Prim.Native.Nat.{ℕ, ◌+◌, ◌-◌, ◌≤◌, ◌<◌}
+use Prim.Native.Nat.{ℕ, min, ◌+◌, ◌-◌, ◌≤◌, ◌<◌}
 use mathlib.Core.Path.{◌≡◌, refl, sym, ap, ◌∙◌}
 use mathlib.Core.Bool.{Bool, true, false}
 use mathlib.Core.List.{List, []}
 use native.Mathlib.Omega.{arith}
-use lib.ListN.{length, get_or, take, drop, length-drop, drop_of_length-le}
-use lib.Seq.{take_all, take-nil}
+use lib.ListN.{length, get_or, take, drop, length-drop}
 use lib.Dec.{leb}
 use borrow.Author.Tests.{leb-true, leb-false}
+use Rattle.std.proofs.lemmas.List.{take_min}
 use Rattle.rules.specs.Stored.{over, cut_short, field, field_at}
 use Rattle.rules.specs.Stored as rule
 use Rattle.rules.proofs.Bools.{never}
@@ -38,22 +38,14 @@ module _ (b : List ℕ) (at : ℕ) where
 
 -- PARTS
 
-module _ (b : List ℕ) (s e : ℕ) where
-  pub part-past : length b ≤ s → [] ≡ part_at b s (e - s)
+-- from s up to x, which is e or the bytes' end
+module _ (b : List ℕ) (s e x : ℕ) (q : x ≡ min e (length b)) where
+  pub part_some : take (x - s) (drop s b) ≡ part_at b s (e - s)
   unfolding part_at
-  part-past h = rw (drop_of_length-le b h) (sym (take-nil (e - s)))
+  part_some = let n : x - s ≡ min (e - s) (length (drop s b)) = omega (arith, length-drop s b) in rw (n, take_min)
 
-  pub part_none : e ≤ s → [] ≡ part_at b s (e - s)
-  unfolding part_at
-  part_none h = let z : e - s ≡ 0 = omega arith in rw z refl
-
-  pub part-rest : s < length b → length b < e → take (length b - s) (drop s b) ≡ part_at b s (e - s)
-  unfolding part_at
-  part-rest l h = take_all (length b - s) (drop s b) (omega (arith, length-drop s b)) ∙ sym (take_all (e - s) (drop s b) (omega (arith, length-drop s b)))
-
-  pub part-whole : take (e - s) (drop s b) ≡ part_at b s (e - s)
-  unfolding part_at
-  part-whole = refl
+  pub part_none : x ≤ s → [] ≡ part_at b s (e - s)
+  part_none h = let z : x - s ≡ 0 = omega arith in rw z at part_some
 
 -- CONTENT
 

@@ -6,7 +6,6 @@ ghost use Rattle.rules.specs.Stored.{field_at};
 ghost use Rattle.laws_stored.specs.Offsets.{number_at, part_at};
 ghost use Rattle.stored_read.specs.Told.{told, content_of};
 
-use base_casts::{wide16, word8};
 use stored_fields::HEAD_BYTES;
 
 // What stands at a position: nothing, since the bytes end there; a field that is cut short; or a field, its tag and where its content begins and ends. The next field begins where the content ends.
@@ -26,7 +25,7 @@ pub fn number_at(bytes: &[u8], at: usize) -> u16
     ensures { result ≡ number_at bytes.now at }
 {
     let next = at + 1;
-    word8(bytes[at]) * BYTE + word8(bytes[next])
+    u16::from(bytes[at]) * BYTE + u16::from(bytes[next])
 }
 
 // The field at a position.
@@ -41,7 +40,7 @@ pub fn field_at(bytes: &[u8], at: usize) -> Field
         return Field::CutShort;
     }
     let start = at + HEAD_BYTES;
-    let length = wide16(number_at(bytes, at + 1));
+    let length = usize::from(number_at(bytes, at + 1));
     if size - start < length {
         return Field::CutShort;
     }
@@ -56,17 +55,11 @@ pub fn field_at(bytes: &[u8], at: usize) -> Field
 pub fn part_of<'a>(bytes: &'a [u8], start: usize, end: usize) -> &'a [u8]
     ensures { result.now ≡ part_at bytes.now start (end - start) }
 {
-    let size = bytes.len();
-    if size <= start {
-        return &bytes[0..0];
+    let stop = end.min(bytes.len());
+    if stop <= start {
+        return &bytes[..0];
     }
-    if end <= start {
-        return &bytes[0..0];
-    }
-    if size < end {
-        return &bytes[start..];
-    }
-    &bytes[start..end]
+    &bytes[start..stop]
 }
 
 // The content of a field, as a part of the bytes; empty where there is no field.

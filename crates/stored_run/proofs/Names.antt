@@ -11,8 +11,8 @@ use Rattle.rules.specs.Objects.{good_name}
 use Rattle.laws_stored.specs.Offsets.{part_at}
 use Rattle.laws_stored.proofs.Accepted.{found-extent}
 use Rattle.base_text.specs.Names.{ordered}
-use Rattle.base_text.specs.declared.Order.{Order}
-use Rattle.base_text.specs.declared.Order.TheVariants.{Less}
+use Rattle.std.specs.declared.cmp.Ordering.{Ordering}
+use Rattle.std.specs.declared.cmp.Ordering.TheVariants.{Less}
 use Rattle.object.proofs.Order.{is-less}
 use Rattle.stored_read.proofs.Found.{Stands}
 use Rattle.stored_walk.specs.Behind.{NamedAt}
@@ -33,12 +33,9 @@ start-other b at e = rw (name_start, ne_eqb (get_or b at 0) 4 e) refl
 -- A NAME ABOVE ANOTHER
 
 module _ {b : List ℕ} {last at start end : ℕ} where
-  pub above-taken : {o : Order} {g : Bool} → o ≡ ordered (take (at - last) (drop last b)) (take (end - start) (drop start b)) → o ≡ Less → g ≡ good_name (take (end - start) (drop start b)) → g ≡ true → EndsAbove b last at start end end
+  pub above-taken : {o : Ordering} {g : Bool} → o ≡ ordered (take (at - last) (drop last b)) (take (end - start) (drop start b)) → o ≡ Less → g ≡ good_name (take (end - start) (drop start b)) → g ≡ true → EndsAbove b last at start end end
   unfolding part_at
   above-taken e l g t = record { ends = λ n. refl; fits = λ n. fits-less _ _ (is-less _ _ e l) ∙ (sym g ∙ t) }
-
-  pub above-none : EndsAbove b last at start end at
-  above-none = record { ends = λ n. absurd (n refl); fits = λ n. absurd (n refl) }
 
 -- THE FIELD OF A LABEL
 

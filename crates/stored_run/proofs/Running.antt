@@ -16,7 +16,7 @@ use Rattle.stored_walk.specs.declared.Walk.{Walk}
 use Rattle.stored_walk.specs.Walking.{Tells, Going, Onward}
 use Rattle.stored_walk.specs.Behind.{label_fits, name_fits, NamedAt}
 use Rattle.stored_walk.proofs.Labels.{label-may, tells-label, names-short, first-last}
-use Rattle.stored_run.specs.Following.{behind_labels, name_start, LabelEnds, Runs}
+use Rattle.stored_run.specs.Following.{behind_labels, name_start, LabelEnds}
 use Rattle.stored_run.proofs.Names.{named-there, named-further}
 
 -- ONE LABEL ON, behind n labels whose names have m bytes
@@ -104,17 +104,11 @@ running_none g z = record {
 }
 
 module _ {b old places : List ℕ} {w : Walk} {last at n m : ℕ} (f : Running b old places w last at n m) where
-  pub running-stop : {r : Walk} → r ≡ behind_labels w at n m → Runs b old places w r
-  running-stop e = record { size = f.size; going = record { state = f.state; tells = rw e f.tells }; further = rw e f.further }
-
   module _ {end : ℕ} (u : LabelEnds b last at end) (d : end ≡ at → ⊥) where
     pub running-there : at + 3 ≤ length b
     running-there = named-there (u.named d)
 
     module _ {start : ℕ} (h : start ≡ name_start b at) where
-      pub running-order : start ≤ end
-      running-order = omega (arith, (u.named d).order)
-
       pub running-low : n < 1024 → m + (end - start) ≤ 65536
       running-low l = rw h (named-low (one_on w f.tells f.name f.owed f.relocs l u d).tells)
 

@@ -7,7 +7,7 @@ ghost use Rattle.stored_walk.specs.Walking.{Going};
 ghost use Rattle.stored_run.specs.Following.{behind_labels, name_start, EndsAbove, LabelEnds, Runs};
 
 use base_capacities::LABELS;
-use base_text::Order;
+use std::cmp::Ordering;
 use stored_fields::{DEFINED_LABEL, EXTERNAL_LABEL, HEAD_BYTES, NUMBER_BYTES};
 use stored_read::Field;
 use stored_walk::Walk;
@@ -18,18 +18,9 @@ pub fn behind_labels(w: Walk, at: usize, labels: usize, named: usize) -> Walk
 {
     Walk {
         at,
-        blocks: w.blocks,
-        words: w.words,
-        floor: w.floor,
-        owed: w.owed,
-        previous: w.previous,
         labels,
         named,
-        relocations: w.relocations,
-        least: w.least,
-        row: w.row,
-        seen: w.seen,
-        address: w.address,
+        ..w
     }
 }
 
@@ -50,16 +41,11 @@ fn end_above(bytes: &[u8], last: usize, at: usize, start: usize, end: usize) -> 
     ensures { EndsAbove bytes.now last at start end result }
 {
     let name = &bytes[start..end];
-    match base_text::compare_bytes(&bytes[last..at], name) {
-        Order::Less => {
-            if object_names::is_label(name) {
-                return end;
-            }
-            at
-        }
-        Order::Same => at,
-        Order::Greater => at,
+    let order = base_text::compare_bytes(&bytes[last..at], name);
+    if matches!(order, Ordering::Less) && object_names::is_label(name) {
+        return end;
     }
+    at
 }
 
 // Where a field that is whole ends, if it is that of a label whose name may follow the one from `last` up to `at`; if not, `at`.
@@ -100,9 +86,8 @@ fn run_from(bytes: &[u8], places: &mut [usize], w: Walk) -> Walk
 {
     let mut at = w.at;
     let mut last = at;
-    let mut k = 0;
     let mut named = 0;
-    while k < LABELS {
+    for k in 0..LABELS {
         let end = label_end(bytes, last, at);
         if end == at {
             return behind_labels(w, at, k, named);
@@ -111,9 +96,8 @@ fn run_from(bytes: &[u8], places: &mut [usize], w: Walk) -> Walk
         last = name_start(bytes, at);
         named += end - last;
         at = end;
-        k += 1;
     }
-    behind_labels(w, at, k, named)
+    behind_labels(w, at, LABELS, named)
 }
 
 // The fields of labels that follow, if these are the first; the step that comes next answers of the field where they stop.

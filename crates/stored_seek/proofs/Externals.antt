@@ -1,4 +1,5 @@
 -- The row of an external's name, by halving over the labels whose fields were noted. Assumes nothing.
+use Rattle.std.specs.declared.option.Option.TheVariants.{Some, None}
 use mathlib.Core.Path.{◌≡◌, refl, sym, ◌∙◌, ap}
 use mathlib.Core.Bool.{false}
 use mathlib.Core.List.{List, []}
@@ -17,10 +18,9 @@ use Rattle.rules.proofs.Halving.{Halved, Sides, halved-start, halved-up, halved-
 use Rattle.laws_stored.proofs.Ordered.{names-sorted}
 use Rattle.laws_stored.proofs.Kept.{kept-ordered}
 use Rattle.base_text.specs.Names.{ordered}
-use Rattle.base_text.specs.declared.Order.{Order}
-use Rattle.base_text.specs.declared.Order.TheVariants.{Less, Same, Greater}
+use Rattle.std.specs.declared.cmp.Ordering.{Ordering}
+use Rattle.std.specs.declared.cmp.Ordering.TheVariants.{Less, Equal, Greater}
 use Rattle.object.proofs.Order.{is-less, is_same, is_greater}
-use Rattle.stored_seek.specs.declared.Row.TheVariants.{External, Other}
 use Rattle.stored_seek.specs.Seeking.{LabelAt, Listed, ListedIn, row_told}
 use Rattle.stored_seek.proofs.Labels.{label-in, tag-outer, tag-defined}
 
@@ -54,21 +54,21 @@ module _ (t : Table Name Lab) (up : Sorted name_order t) where
   row_at k l = rw (tab-get_or t ([], outer)) at (row-index (length t) (row t) rows k l)
 
   -- a row that has the name
-  told-external : (x : Name) (k : ℕ) → k < length t → (row t k).0 ≡ x → (row t k).1 ≡ outer → External k ≡ row_told t x
+  told-external : (x : Name) (k : ℕ) → k < length t → (row t k).0 ≡ x → (row t k).1 ≡ outer → Some k ≡ row_told t x
   unfolding row_told
   told-external x k l n v =
       let p : look name_order t x ≡ some outer = rw (n, v) at (look_at k l) in
       let q : row_of t x ≡ k = rw n at (row_at k l) in
-      rw (p, row_told) (ap External (sym q))
+      rw (p, row_told) (ap Some (sym q))
 
-  told-defined : (x : Name) (k : ℕ) → k < length t → (row t k).0 ≡ x → is_outer (some (row t k).1) ≡ false → Other ≡ row_told t x
+  told-defined : (x : Name) (k : ℕ) → k < length t → (row t k).0 ≡ x → is_outer (some (row t k).1) ≡ false → None ≡ row_told t x
   unfolding row_told
   told-defined x k l n v =
       let p : look name_order t x ≡ some (row t k).1 = rw n at (look_at k l) in
       rw (p, row_told) (rw v refl)
 
 -- or none has
-told_none : (t : Table Name Lab) (x : Name) → ((k : ℕ) → k < length t → x ≡ (row t k).0 → ⊥) → Other ≡ row_told t x
+told_none : (t : Table Name Lab) (x : Name) → ((k : ℕ) → k < length t → x ≡ (row t k).0 → ⊥) → None ≡ row_told t x
 unfolding row_told
 told_none t x h =
     let p : look name_order t x ≡ none = rw (tab-get_or t ([], outer)) at (look_none name_order (length t) (row t) x h) in
@@ -87,7 +87,7 @@ pub record Narrowed (b places : List ℕ) (n : ℕ) (x : Name) (lo hi : ℕ) : T
 pub narrowed-start : (b places : List ℕ) (n : ℕ) (x : Name) → Narrowed b places n x 0 n
 narrowed-start b places n x = record { order = omega arith; within = omega arith; halved = λ s end h. rw h.count (halved-start (Below s.labels x) (Above s.labels x)) }
 
-pub narrowed-end : (b places : List ℕ) (n : ℕ) (x : Name) (lo hi : ℕ) → Narrowed b places n x lo hi → hi ≤ lo → (s : State) (end : ℕ) → Listed b places n s end → Other ≡ row_told s.labels x
+pub narrowed-end : (b places : List ℕ) (n : ℕ) (x : Name) (lo hi : ℕ) → Narrowed b places n x lo hi → hi ≤ lo → (s : State) (end : ℕ) → Listed b places n s end → None ≡ row_told s.labels x
 narrowed-end b places n x lo hi t l s end h = told_none s.labels x (λ k m. go k m (dec_lt k lo))
   where
     go : (k : ℕ) → k < length s.labels → Dec (k < lo) → x ≡ (row s.labels k).0 → ⊥
@@ -113,7 +113,7 @@ module _ (b places : List ℕ) (n : ℕ) (x : Name) (lo hi : ℕ) (t : Narrowed 
     place_in v = label-in b at (row v.state.labels middle) (here v.state v.end v.listed)
 
     -- m is the name that stands there, r its order with x
-    module _ (m : Name) (f : (e : Name × Lab) → LabelAt b at e → m ≡ e.0) (r : Order) (q : r ≡ ordered m x) where
+    module _ (m : Name) (f : (e : Name × Lab) → LabelAt b at e → m ≡ e.0) (r : Ordering) (q : r ≡ ordered m x) where
       same_name : (s : State) (end : ℕ) → Listed b places n s end → m ≡ (row s.labels middle).0
       same_name s end h = f (row s.labels middle) (here s end h)
 
@@ -131,11 +131,11 @@ module _ (b places : List ℕ) (n : ℕ) (x : Name) (lo hi : ℕ) (t : Narrowed 
         halved = λ s end h. halved-down _ _ (sides s.labels (sorted h) x) (t.halved s end h) l (rw (same_name s end h) at (is_greater m x q z));
       }
 
-      module _ (z : r ≡ Same) (s : State) (end : ℕ) (h : Listed b places n s end) where
-        pub hit-external : get_or b at 0 ≡ 5 → External middle ≡ row_told s.labels x
+      module _ (z : r ≡ Equal) (s : State) (end : ℕ) (h : Listed b places n s end) where
+        pub hit-external : get_or b at 0 ≡ 5 → Some middle ≡ row_told s.labels x
         hit-external g = told-external s.labels (sorted h) x middle (inside s end h) (sym (same_name s end h) ∙ is_same m x q z) (tag-outer b at (row s.labels middle) (here s end h) g)
 
-        pub hit-defined : (get_or b at 0 ≡ 5 → ⊥) → Other ≡ row_told s.labels x
+        pub hit-defined : (get_or b at 0 ≡ 5 → ⊥) → None ≡ row_told s.labels x
         hit-defined g = told-defined s.labels (sorted h) x middle (inside s end h) (sym (same_name s end h) ∙ is_same m x q z) (tag-defined b at (row s.labels middle) (here s end h) g)
 
 -- ONE ROW
@@ -144,14 +144,11 @@ module _ (b places : List ℕ) (n k : ℕ) (l : k < n) where
   there : (s : State) (end : ℕ) → Listed b places n s end → LabelAt b (get_or places k 0) (row s.labels k)
   there s end h = h.noted.rows k (omega (arith, h.count))
 
-  pub row-in : ListedIn b places n → k < length places
-  row-in v = let h = v.listed in omega (arith, h.count, h.checks.kept.few_labels, h.noted.room)
-
   pub row-place : ListedIn b places n → get_or places k 0 < length b
   row-place v = label-in b (get_or places k 0) (row v.state.labels k) (there v.state v.end v.listed)
 
-  pub row-external : get_or b (get_or places k 0) 0 ≡ 5 → (m x : Name) → ((e : Name × Lab) → LabelAt b (get_or places k 0) e → m ≡ e.0) → (r : Order) → r ≡ ordered m x → r ≡ Same
-      → (s : State) (end : ℕ) → Listed b places n s end → External k ≡ row_told s.labels x
+  pub row-external : get_or b (get_or places k 0) 0 ≡ 5 → (m x : Name) → ((e : Name × Lab) → LabelAt b (get_or places k 0) e → m ≡ e.0) → (r : Ordering) → r ≡ ordered m x → r ≡ Equal
+      → (s : State) (end : ℕ) → Listed b places n s end → Some k ≡ row_told s.labels x
   row-external g m x f r q z s end h =
       told-external s.labels (sorted h) x k (omega (arith, h.count)) (sym (f (row s.labels k) (there s end h)) ∙ is_same m x q z)
       (tag-outer b (get_or places k 0) (row s.labels k) (there s end h) g)

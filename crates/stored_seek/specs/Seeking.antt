@@ -1,4 +1,6 @@
 -- Words and labels looked for in the fields that were read. Assumes nothing.
+use Rattle.std.specs.declared.option.Option as O
+use Rattle.std.specs.declared.option.Option.TheVariants.{Some, None}
 use Rattle.std.specs.Prelude.{◌≡◌, true, false, List, [], ◌∷◌, ℕ, ◌+◌, ◌≤◌, ◌<◌, length, get_or}
 use Rattle.rules.specs.Capacities.{label_room}
 use Rattle.rules.specs.Tables.{Table, look, nat_order, name_order}
@@ -13,8 +15,6 @@ use Rattle.laws_stored.proofs.Walked.{Walks}
 use Rattle.stored_seek.specs.declared.Sought.{Sought}
 use Rattle.stored_seek.specs.declared.Pace.{Pace}
 use Rattle.stored_seek.specs.declared.Pace.TheVariants.{Past, Here}
-use Rattle.stored_seek.specs.declared.Row.{Row}
-use Rattle.stored_seek.specs.declared.Row.TheVariants.{External, Other}
 
 -- WORDS BY ADDRESS
 
@@ -80,5 +80,5 @@ pub record ListedIn (b places : List ℕ) (n : ℕ) : Type 0 where
   pub listed : Listed b places n state end
 
 -- the row of an external's name
-unfoldable pub row_told : Table Name Lab → Name → Row
-row_told ls n = elim (is_outer (look name_order ls n)) [ true ↦ External (row_of ls n) | false ↦ Other ]
+unfoldable pub row_told : Table Name Lab → Name → O.Option ℕ
+row_told ls n = elim (is_outer (look name_order ls n)) [ true ↦ Some (row_of ls n) | false ↦ None ]

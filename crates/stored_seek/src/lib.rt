@@ -1,15 +1,13 @@
 // What a relocation asks of the fields before it: the word at its address, found by walking on through the runs, and the row of its name, found by halving.
 #![tactic(auto)]
 
-ghost use Rattle.std.specs.Prelude.{◌≡◌, true, ℕ, ◌+◌, ◌≤◌, length};
+ghost use Rattle.std.specs.Prelude.{◌≡◌, true, ℕ, ◌+◌, ◌≤◌, length, Some};
 ghost use Rattle.rules.specs.Objects.{Name, Lab};
 ghost use Rattle.rules.specs.Stored.{State};
 ghost use Rattle.laws_stored.specs.Offsets.{number_at};
-ghost use Rattle.stored_seek.specs.declared.Row.TheVariants.{External};
 ghost use Rattle.stored_seek.specs.Seeking.{Seeker, Seeks, Paces, LabelAt, Listed, ListedIn, row_told};
 
-use base_casts::wide16;
-use base_text::Order;
+use std::cmp::Ordering;
 use stored_fields::{BLOCK, DEFINED_LABEL, EXTERNAL_LABEL, NUMBER_BYTES, SET_WORDS, UNSET_WORDS};
 use stored_read::Field;
 
@@ -28,13 +26,6 @@ enum Pace {
     Here(bool),
 }
 
-// The row of a name: that of an external; or there is none such.
-#[derive(Clone, Copy)]
-pub enum Row {
-    External(usize),
-    Other,
-}
-
 // The number at a place; 0 where the bytes end before it is whole.
 fn number_from(bytes: &[u8], at: usize) -> usize
     ensures { at + 2 ≤ length bytes.now → result ≡ number_at bytes.now at }
@@ -46,7 +37,7 @@ fn number_from(bytes: &[u8], at: usize) -> usize
     if size - at < NUMBER_BYTES {
         return 0;
     }
-    wide16(stored_read::number_at(bytes, at))
+    usize::from(stored_read::number_at(bytes, at))
 }
 
 // One field of the search for the word at an address, where words begin at `here`.
@@ -101,6 +92,7 @@ pub fn seek_word(bytes: &[u8], end: usize, seen: usize, address: usize, wanted: 
 {
     let mut at = seen;
     let mut here = address;
+    // A while: each turn passes one field, and the field says where the next begins.
     while at < end {
         match seek_in_field(bytes, at, here, wanted) {
             Pace::Past { next, address } => {
@@ -140,60 +132,60 @@ pub fn label_name(bytes: &[u8], at: usize) -> &[u8]
 }
 
 // The row of a name among the n labels whose fields stand at the places, if it is an external's, by halving.
-pub fn seek_external(bytes: &[u8], places: &[usize], n: usize, name: &[u8]) -> Row
+pub fn seek_external(bytes: &[u8], places: &[usize], n: usize, name: &[u8]) -> Option<usize>
     requires { ListedIn bytes.now places.now n }
     ensures { (s : State) (end : ℕ) → Listed bytes.now places.now n s end → result ≡ row_told s.labels name.now }
 {
     let mut low = 0;
     let mut high = n;
+    // A while: each turn halves what is left.
     while low < high {
         let middle = low + (high - low) / 2;
         let at = places[middle];
         match base_text::compare_bytes(label_name(bytes, at), name) {
-            Order::Less => {
+            Ordering::Less => {
                 low = middle + 1;
             }
-            Order::Greater => {
+            Ordering::Greater => {
                 high = middle;
             }
-            Order::Same => {
+            Ordering::Equal => {
                 if bytes[at] == EXTERNAL_LABEL {
-                    return Row::External(middle);
+                    return Some(middle);
                 }
-                return Row::Other;
+                return None;
             }
         }
     }
-    Row::Other
+    None
 }
 
 // Row k is that of an external with this name.
 fn is_external(bytes: &[u8], places: &[usize], n: usize, k: usize, name: &[u8]) -> bool
     requires { ListedIn bytes.now places.now n }
-    ensures { (s : State) (end : ℕ) → Listed bytes.now places.now n s end → result ≡ true → External k ≡ row_told s.labels name.now }
+    ensures { (s : State) (end : ℕ) → Listed bytes.now places.now n s end → result ≡ true → Some k ≡ row_told s.labels name.now }
 {
     if n <= k {
         return false;
     }
     let at = places[k];
-    match base_text::compare_bytes(label_name(bytes, at), name) {
-        Order::Less => false,
-        Order::Same => bytes[at] == EXTERNAL_LABEL,
-        Order::Greater => false,
-    }
+    let order = base_text::compare_bytes(label_name(bytes, at), name);
+    matches!(order, Ordering::Equal) && bytes[at] == EXTERNAL_LABEL
 }
 
 // The same as seek_external. The row behind the last one that was found is looked at first, since relocations often follow one another as their labels do.
-pub fn seek_near(bytes: &[u8], places: &[usize], n: usize, last: usize, name: &[u8]) -> Row
+pub fn seek_near(
+    bytes: &[u8],
+    places: &[usize],
+    n: usize,
+    last: usize,
+    name: &[u8],
+) -> Option<usize>
     requires { ListedIn bytes.now places.now n }
     ensures { (s : State) (end : ℕ) → Listed bytes.now places.now n s end → result ≡ row_told s.labels name.now }
 {
-    if last < n {
-        let near = last + 1;
-        if is_external(bytes, places, n, near, name) {
-            return Row::External(near);
-        }
-        return seek_external(bytes, places, n, name);
+    if last < n && is_external(bytes, places, n, last + 1, name) {
+        return Some(last + 1);
     }
     seek_external(bytes, places, n, name)
 }

@@ -20,8 +20,8 @@ use Rattle.laws_stored.proofs.Taken.{may-label, less-is}
 use Rattle.laws_stored.proofs.Kept.{NamesTo}
 use Rattle.laws_stored.proofs.Checking.{checks-more}
 use Rattle.base_text.specs.Names.{ordered}
-use Rattle.base_text.specs.declared.Order.{Order}
-use Rattle.base_text.specs.declared.Order.TheVariants.{Less, Same, Greater}
+use Rattle.std.specs.declared.cmp.Ordering.{Ordering}
+use Rattle.std.specs.declared.cmp.Ordering.TheVariants.{Less, Equal, Greater}
 use Rattle.object.proofs.Order.{is-less, is_same, is_greater}
 use Rattle.stored_read.proofs.Found.{Stands}
 use Rattle.stored_seek.specs.Seeking.{LabelAt, Listed}
@@ -74,18 +74,26 @@ module _ (b places : List ℕ) (n : ℕ) (name : Name) where
       rw l (g ∙ sym (first_fits name))
 
   -- m is the last label's name, o its order with the name
-  module _ (z : n ≡ 0 → ⊥) (m : Name) (f : (e : Name × Lab) → LabelAt b (get_or places (n - 1) 0) e → m ≡ e.0) (o : Order) (q : o ≡ ordered m name) (s : State) (end : ℕ) (h : Listed b places n s end) where
+  module _ (z : n ≡ 0 → ⊥) (m : Name) (f : (e : Name × Lab) → LabelAt b (get_or places (n - 1) 0) e → m ≡ e.0) (o : Ordering) (q : o ≡ ordered m name) (s : State) (end : ℕ) (h : Listed b places n s end) where
     last-is : m ≡ s.last
     last-is = f (get_or s.labels (n - 1) ([], outer)) (h.noted.rows (n - 1) (omega (arith, z, h.count))) ∙ last_name [] s.last s.labels n h.checks.kept.names h.count z
 
     pub name-above : (r : Bool) → o ≡ Less → r ≡ good_name name → r ≡ name_fits s.last name
     name-above r p g = rw (← last-is) (g ∙ sym (fits-less m name (is-less m name q p)))
 
-    pub name-again : o ≡ Same → false ≡ name_fits s.last name
+    name-again : o ≡ Equal → false ≡ name_fits s.last name
     name-again p = rw (← last-is) (sym (fits_not m name (λ k. lt-ne name_order m name k (is_same m name q p))))
 
-    pub name_below : o ≡ Greater → false ≡ name_fits s.last name
+    name_below : o ≡ Greater → false ≡ name_fits s.last name
     name_below p = rw (← last-is) (sym (fits_not m name (λ k. name_order.irr m (name_order.trans m name m k (is_greater m name q p)))))
+
+    pub name-not : (o ≡ Less → ⊥) → false ≡ name_fits s.last name
+    name-not n = go o refl
+      where
+        go : (x : Ordering) → o ≡ x → false ≡ name_fits s.last name
+        go Less e = absurd (n e)
+        go Equal e = name-again e
+        go Greater e = name_below e
 
 -- THE FIELD OF A LABEL
 

@@ -1,4 +1,6 @@
 -- The field of a relocation: its word is looked for in the runs, its name among the labels. Assumes nothing.
+use Rattle.std.specs.declared.option.Option as O
+use Rattle.std.specs.declared.option.Option.TheVariants.{Some, None}
 use mathlib.Core.Path.{◌≡◌, refl, sym, ◌∙◌, ap}
 use mathlib.Core.Bool.{Bool, true, false, ◌&&◌, and_assoc}
 use mathlib.Core.List.{List, [], ◌∷◌, ◌++◌}
@@ -17,8 +19,6 @@ use Rattle.laws_stored.proofs.Accepted.{Finds}
 use Rattle.laws_stored.proofs.Checking.{checks-more}
 use Rattle.stored_read.proofs.Found.{Stands}
 use Rattle.stored_seek.specs.declared.Sought.{Sought}
-use Rattle.stored_seek.specs.declared.Row.{Row}
-use Rattle.stored_seek.specs.declared.Row.TheVariants.{External, Other}
 use Rattle.stored_seek.specs.Seeking.{Cursor, Seeker, Seeks, Listed, ListedIn, row_told}
 use Rattle.stored_seek.proofs.Cursors.{cursor-reloc}
 use Rattle.stored_walk.specs.declared.Walk.{Walk}
@@ -31,27 +31,27 @@ use Rattle.stored_walk.proofs.Labels.{listed}
 
 -- what the row of a name says of it
 
-row-outer : (ls : Table Name Lab) (n : Name) (k : ℕ) → External k ≡ row_told ls n → is_outer (look name_order ls n) ≡ true
+row-outer : (ls : Table Name Lab) (n : Name) (k : ℕ) → Some k ≡ row_told ls n → is_outer (look name_order ls n) ≡ true
 unfolding row_told
 row-outer ls n k e = go (is_outer (look name_order ls n)) e
   where
-    go : (x : Bool) → External k ≡ elim x [ true ↦ External (row_of ls n) | false ↦ Other ] → x ≡ true
+    go : (x : Bool) → Some k ≡ elim x [ true ↦ Some (row_of ls n) | false ↦ None ] → x ≡ true
     go true h = refl
     go false h = never cc
 
-row_is : (ls : Table Name Lab) (n : Name) (k : ℕ) → External k ≡ row_told ls n → k ≡ row_of ls n
+row_is : (ls : Table Name Lab) (n : Name) (k : ℕ) → Some k ≡ row_told ls n → k ≡ row_of ls n
 unfolding row_told
 row_is ls n k e = go (is_outer (look name_order ls n)) e
   where
-    go : (x : Bool) → External k ≡ elim x [ true ↦ External (row_of ls n) | false ↦ Other ] → k ≡ row_of ls n
+    go : (x : Bool) → ◌≡◌ {A = O.Option ℕ} (Some k) (elim x [ true ↦ Some (row_of ls n) | false ↦ None ]) → k ≡ row_of ls n
     go true h = cc
     go false h = never cc
 
-row_other : (ls : Table Name Lab) (n : Name) → Other ≡ row_told ls n → is_outer (look name_order ls n) ≡ false
+row_other : (ls : Table Name Lab) (n : Name) → None ≡ row_told ls n → is_outer (look name_order ls n) ≡ false
 unfolding row_told
 row_other ls n e = go (is_outer (look name_order ls n)) e
   where
-    go : (x : Bool) → Other ≡ elim x [ true ↦ External (row_of ls n) | false ↦ Other ] → x ≡ false
+    go : (x : Bool) → ◌≡◌ {A = O.Option ℕ} None (elim x [ true ↦ Some (row_of ls n) | false ↦ None ]) → x ≡ false
     go true h = never cc
     go false h = refl
 
@@ -121,15 +121,15 @@ module _ (b places : List ℕ) (w : Walk) (a start end : ℕ) (p : RelocAt b w.a
         (sym (reloc-may b places w s t a (part_at b start (end - start))) ∙ rw (x, ← (sought s t).zero, z) refl);
   }
 
-  module _ (z : q.zero ≡ true) (name : Name) (e : name ≡ part_at b start (end - start)) (k : Row) (h : (s : State) (y : ℕ) → Listed b places w.labels s y → k ≡ row_told s.labels name) where
+  module _ (z : q.zero ≡ true) (name : Name) (e : name ≡ part_at b start (end - start)) (k : O.Option ℕ) (h : (s : State) (y : ℕ) → Listed b places w.labels s y → k ≡ row_told s.labels name) where
     found : Finds b w.at (reloc a name) end
     found = rw e p.found
 
-    pub reloc-taken : (row : ℕ) → k ≡ External row → (r : Walk) → r ≡ behind_reloc w end (a + 1) row q.seen q.address → Moves b places places w (On r)
+    pub reloc-taken : (row : ℕ) → k ≡ Some row → (r : Walk) → r ≡ behind_reloc w end (a + 1) row q.seen q.address → Moves b places places w (On r)
     unfolding Steps
     reloc-taken row i r g = record {
       size = refl;
-      steps = λ s t. let o : External row ≡ row_told s.labels name = sym i ∙ h s w.at (listed t) in
+      steps = λ s t. let o : Some row ≡ row_told s.labels name = sym i ∙ h s w.at (listed t) in
           let m : may s (reloc a name) ≡ true = sym (reloc-may b places w s t a name) ∙ rw (x, ← (sought s t).zero, z, row-outer s.labels name row o) refl in
           rw g (record {
             item = reloc a name;
@@ -141,7 +141,7 @@ module _ (b places : List ℕ) (w : Walk) (a start end : ℕ) (p : RelocAt b w.a
           });
     }
 
-    pub name-refused : k ≡ Other → Moves b places places w (Broken w.at)
+    pub name-refused : k ≡ None → Moves b places places w (Broken w.at)
     name-refused i = record {
       size = refl;
       steps = λ s t. breaks b places places w s t (reloc a name) end found

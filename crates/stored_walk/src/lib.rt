@@ -9,15 +9,13 @@ ghost use Rattle.stored_walk.specs.Walking.{begun, Tells, Going, Steps, Stepped,
 ghost use Rattle.stored_walk.specs.Behind.{behind_block, block_fits, set_kind, kind_left, behind_run, set_fits, unset_fits, behind_label, label_fits, name_fits, NamedAt, behind_reloc, reloc_fits, RelocAt};
 
 use base_capacities::{BLOCKS, LABELS, RELOCATIONS, WORDS};
-use base_casts::wide16;
-use base_text::Order;
 use object::Counts;
+use std::cmp::Ordering;
 use stored_fields::{
     BLOCK, DEFINED_LABEL, END, EXTERNAL_LABEL, NUMBER_BYTES, RELOCATION, RUN_WORDS, SET_WORDS,
     UNSET_WORDS,
 };
 use stored_read::{Field, number_at};
-use stored_seek::Row;
 
 // What is known of the fields up to `at`: what run came last; words read, and those that the open block is owed; blocks, the open one among them, and
 // where the last ends; labels, name bytes and relocations read; the least address that the next relocation may have and the label row of the last;
@@ -84,17 +82,10 @@ fn opened(w: Walk, at: usize, floor: usize, count: usize) -> Walk
     Walk {
         at,
         blocks: w.blocks + 1,
-        words: w.words,
         floor,
         owed: count,
         previous: FREE,
-        labels: w.labels,
-        named: w.named,
-        relocations: w.relocations,
-        least: w.least,
-        row: w.row,
-        seen: w.seen,
-        address: w.address,
+        ..w
     }
 }
 
@@ -114,8 +105,8 @@ fn step_block(bytes: &[u8], w: Walk, start: usize, end: usize) -> Walked
     ensures { Stepped bytes.now w result }
 {
     if end - start == 2 * NUMBER_BYTES {
-        let first = wide16(number_at(bytes, start));
-        let count = wide16(number_at(bytes, start + NUMBER_BYTES));
+        let first = usize::from(number_at(bytes, start));
+        let count = usize::from(number_at(bytes, start + NUMBER_BYTES));
         if block_fits(w, first, count) {
             return Walked::On(opened(w, end, first + count, count));
         }
@@ -153,18 +144,10 @@ fn grown(w: Walk, at: usize, size: usize, kind: usize) -> Walk
     let owed = w.owed - size;
     Walk {
         at,
-        blocks: w.blocks,
         words: w.words + size,
-        floor: w.floor,
         owed,
         previous: kind_left(owed, kind),
-        labels: w.labels,
-        named: w.named,
-        relocations: w.relocations,
-        least: w.least,
-        row: w.row,
-        seen: w.seen,
-        address: w.address,
+        ..w
     }
 }
 
@@ -206,7 +189,7 @@ fn step_unset(bytes: &[u8], w: Walk, start: usize, end: usize) -> Walked
     ensures { Stepped bytes.now w result }
 {
     if end - start == NUMBER_BYTES {
-        let size = wide16(number_at(bytes, start));
+        let size = usize::from(number_at(bytes, start));
         if unset_fits(w, size) {
             return Walked::On(grown(w, end, size, SKIPPED));
         }
@@ -242,18 +225,9 @@ fn labelled(w: Walk, at: usize, name: usize) -> Walk
 {
     Walk {
         at,
-        blocks: w.blocks,
-        words: w.words,
-        floor: w.floor,
-        owed: w.owed,
-        previous: w.previous,
         labels: w.labels + 1,
         named: w.named + name,
-        relocations: w.relocations,
-        least: w.least,
-        row: w.row,
-        seen: w.seen,
-        address: w.address,
+        ..w
     }
 }
 
@@ -273,11 +247,8 @@ fn name_follows(bytes: &[u8], places: &[usize], n: usize, name: &[u8]) -> bool
         return object_names::is_label(name);
     }
     let last = places[n - 1];
-    match base_text::compare_bytes(stored_seek::label_name(bytes, last), name) {
-        Order::Less => object_names::is_label(name),
-        Order::Same => false,
-        Order::Greater => false,
-    }
+    let order = base_text::compare_bytes(stored_seek::label_name(bytes, last), name);
+    matches!(order, Ordering::Less) && object_names::is_label(name)
 }
 
 // x04 and x05, behind an address if there is one: a name. Its field is noted for relocations.
@@ -317,18 +288,12 @@ fn relocated(w: Walk, at: usize, least: usize, row: usize, seen: usize, address:
 {
     Walk {
         at,
-        blocks: w.blocks,
-        words: w.words,
-        floor: w.floor,
-        owed: w.owed,
-        previous: w.previous,
-        labels: w.labels,
-        named: w.named,
         relocations: w.relocations + 1,
         least,
         row,
         seen,
         address,
+        ..w
     }
 }
 
@@ -357,10 +322,10 @@ fn step_named(
     if word.zero {
         let name = stored_read::part_of(bytes, start, end);
         match stored_seek::seek_near(bytes, places, w.labels, w.row, name) {
-            Row::External(row) => {
+            Some(row) => {
                 return Walked::On(relocated(w, end, wanted + 1, row, word.seen, word.address));
             }
-            Row::Other => {
+            None => {
                 return Walked::Broken(w.at);
             }
         }
@@ -377,7 +342,7 @@ fn step_relocation(bytes: &[u8], places: &[usize], w: Walk, start: usize, end: u
     if end - start < NUMBER_BYTES {
         return Walked::Broken(w.at);
     }
-    let wanted = wide16(number_at(bytes, start));
+    let wanted = usize::from(number_at(bytes, start));
     if reloc_fits(w, wanted) {
         return step_named(bytes, places, w, wanted, start + NUMBER_BYTES, end);
     }

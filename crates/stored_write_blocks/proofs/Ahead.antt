@@ -1,50 +1,26 @@
 -- The first run of words beside their marks, and what is behind it. Assumes nothing.
-use Prim.Native.Nat.{ℕ, zero, suc, ◌+◌, ◌-◌, ◌≤◌, ◌<◌}
+use Prim.Native.Nat.{ℕ, zero, suc, min, ◌+◌, ◌-◌, ◌≤◌, ◌<◌}
 use mathlib.Core.Path.{◌≡◌, refl, sym, ◌∙◌, ap}
-use mathlib.Core.Bool.{Bool, true, false, ◌&&◌}
+use mathlib.Core.Bool.{Bool, true, false}
 use mathlib.Core.List.{List, [], ◌∷◌, ◌++◌}
-use native.Mathlib.Nat.{not-suc-le-zero}
 use native.Mathlib.Decide.{dec_lt}
 use native.Mathlib.Numerals.{add-one}
 use native.Mathlib.Omega.{arith}
-use borrow.Author.Count.{below_more}
-use borrow.Author.Tests.{eq-eqb, ne_eqb, eqb-true, eqb-false}
+use borrow.Author.Tests.{eq-eqb, ne_eqb}
 use lib.Dec.{eqb}
 use lib.ListN.{length, take, drop, get_or, length-take, length-drop, drop_of_length-le}
-use lib.Seq.{drop-cons, length-take-le, get_or-take, get_or-drop, take_all}
+use lib.Seq.{drop-cons, length-take-le, get_or-take, get_or-drop}
+use Rattle.std.proofs.lemmas.List.{take_min}
 use Rattle.rules.specs.Objects.{Cell, unset, word}
 use Rattle.rules.specs.Stored.{Run, sets, gap, run, run_room, spell, run_items, runs_of, words_then, unset_then}
 use Rattle.laws_stored.proofs.Cut.{room-is, NoneSet, NoneUnset, runs_none, runs-gap, runs-set, runs-full}
-use Rattle.object.specs.Decides.{Decides, decides_yes, decides_no}
+use Rattle.object.specs.Decides.{Decides}
 use Rattle.stored_fields.specs.Fields.{field_of}
 use Rattle.stored_write_blocks.specs.Runs.{Alike, alike, Passed, run_ahead, cells_of, run_field, run_bytes, Marked}
 
 -- MARKS ALIKE
 
--- all of a few marks
-pub record AlikeTo (m : ℕ) (ms : List ℕ) (alike : Bool) (i : ℕ) : Type 0 where
-  pub within : i ≤ length ms
-  pub first : Decides (Alike m ms i) alike
-
 module _ (m : ℕ) (ms : List ℕ) where
-  pub alike-start : AlikeTo m ms true 0
-  alike-start = record { within = omega arith; first = decides_yes (λ j h. absurd (not-suc-le-zero h)) }
-
-  one_more : (i : ℕ) (a b : Bool) → Decides (Alike m ms i) a → eqb (get_or ms i 0) m ≡ b → Decides (Alike m ms (i + 1)) (a && b)
-  one_more i true true d e = decides_yes (below_more _ _ (d.yes refl) (eqb-true (get_or ms i 0) m e))
-  one_more i true false d e = decides_no (λ v. eqb-false (get_or ms i 0) m e (v i (omega arith)))
-  one_more i false b d e = decides_no (λ v. d.no refl (λ j h. v j (omega arith)))
-
-  pub alike_next : {i : ℕ} {a : Bool} → AlikeTo m ms a i → i < length ms → AlikeTo m ms (a && eqb (get_or ms i 0) m) (i + 1)
-  alike_next {i} {a} t h = record { within = omega arith; first = one_more i a (eqb (get_or ms i 0) m) t.first refl }
-
-  pub alike_end : {i : ℕ} {a : Bool} → AlikeTo m ms a i → length ms ≤ i → Decides (Alike m ms (length ms)) a
-  alike_end {i} t h = let e : i ≡ length ms = omega (arith, t.within) in rw e at t.first
-
-module _ (m : ℕ) (ms : List ℕ) where
-  pub passed_none : Passed m ms 0
-  passed_none = record { rest = omega arith; within = omega arith }
-
   module _ (i : ℕ) (p : Passed m ms i) where
     pub passed-more : i < length ms → get_or ms i 0 ≡ m → Passed m ms (i + 1)
     unfolding alike
@@ -98,17 +74,11 @@ ahead-unset [] r l e q = absurd (omega arith)
 ahead-unset (zero ∷ ms) r l e q = q
 ahead-unset (suc m ∷ ms) r l e q = absurd (omega arith)
 
-pub ahead-short : (ms : List ℕ) (r : ℕ) → 0 < length ms → (get_or ms 0 0 ≡ 0 → ⊥) → length ms ≤ 16384 → r ≡ alike (get_or ms 0 0) ms → r ≡ run_ahead ms
-unfolding run_ahead
-ahead-short [] r l h s q = absurd (omega arith)
-ahead-short (zero ∷ ms) r l h s q = absurd (h refl)
-ahead-short (suc m ∷ ms) r l h s q = q ∙ ap (alike (suc m)) (sym (take_all run_room (suc m ∷ ms) (omega (arith, room-is))))
-
-pub ahead-long : (ms : List ℕ) (r : ℕ) → 0 < length ms → (get_or ms 0 0 ≡ 0 → ⊥) → r ≡ alike (get_or ms 0 0) (take 16384 ms) → r ≡ run_ahead ms
+pub ahead_set : (ms : List ℕ) (r : ℕ) → 0 < length ms → (get_or ms 0 0 ≡ 0 → ⊥) → r ≡ alike (get_or ms 0 0) (take (min 16384 (length ms)) ms) → r ≡ run_ahead ms
 unfolding run_ahead run_room
-ahead-long [] r l h q = absurd (omega arith)
-ahead-long (zero ∷ ms) r l h q = absurd (h refl)
-ahead-long (suc m ∷ ms) r l h q = q
+ahead_set [] r l h q = absurd (omega arith)
+ahead_set (zero ∷ ms) r l h q = absurd (h refl)
+ahead_set (suc m ∷ ms) r l h q = rw take_min at q
 
 -- UNSET WORDS
 

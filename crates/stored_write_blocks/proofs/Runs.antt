@@ -52,9 +52,6 @@ module _ (ms : List ℕ) (i : ℕ) where
   rest-is : take (length ms - i) (drop i ms) ≡ drop i ms
   rest-is = take_all (length ms - i) (drop i ms) (omega (arith, length-drop i ms))
 
-  pub some-rest : i < length ms → 0 < length (take (length ms - i) (drop i ms))
-  some-rest l = rw rest-is (omega (arith, length-drop i ms))
-
   first-mark : get_or (drop i ms) 0 0 ≡ get_or ms i 0
   first-mark = get_or-drop i ms 0 0 ∙ ap (λ (k : ℕ). get_or ms k 0) (add-zero i)
 
@@ -141,9 +138,6 @@ pub record RunsSummed (ms : List ℕ) (i size : ℕ) : Type 0 where
   pub within : i ≤ length ms
 
 module _ (ms : List ℕ) where
-  pub runs-summed-none : RunsSummed ms 0 0
-  runs-summed-none = record { sum = λ ws e. omega arith; small = omega arith; within = omega arith }
-
   pub run-summed : (i size n r : ℕ) → Marked ms → RunsSummed ms i size → i < length ms → n ≡ run_ahead (take (length ms - i) (drop i ms)) → RunSized (get_or ms i 0) n r → RunsSummed ms (i + n) (size + r)
   run-summed i size n r h inv l q s =
       let more : (ws : List ℕ) → length ws ≡ length ms → length (run_bytes ws ms) ≡ size + r + length (run_bytes (drop (i + n) ws) (drop (i + n) ms)) = λ ws e. (

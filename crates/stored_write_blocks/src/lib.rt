@@ -9,7 +9,6 @@ ghost use Rattle.stored_write_blocks.specs.Runs.{Alike, alike, Passed, run_ahead
 ghost use Rattle.stored_write_blocks.specs.Blocks.{block_bytes, blocks_bytes, MarksOk, BlocksSized};
 
 use base_capacities::{BLOCK_CELLS, BLOCK_LENGTH, UNSET};
-use base_casts::wide16;
 use stored_fields::{BLOCK_BYTES, HEAD_BYTES, NUMBER_BYTES, RUN_WORDS};
 
 // How many marks are looked at in one step.
@@ -20,10 +19,8 @@ fn all_alike(marks: &[u8], mark: u8) -> bool
     ensures { Decides (Alike mark marks.now (length marks.now)) result }
 {
     let mut alike = true;
-    let mut i = 0;
-    while i < marks.len() {
-        alike = alike & (marks[i] == mark);
-        i += 1;
+    for x in marks {
+        alike &= *x == mark;
     }
     alike
 }
@@ -33,15 +30,12 @@ fn alike_from(marks: &[u8], mark: u8, at: usize) -> usize
     requires { Passed mark marks.now at }
     ensures { result ≡ alike mark marks.now }
 {
-    let mut i = at;
-    while i < marks.len() {
-        if marks[i] == mark {
-            i += 1;
-        } else {
+    for i in at..marks.len() {
+        if marks[i] != mark {
             return i;
         }
     }
-    i
+    marks.len()
 }
 
 // How many marks at the front are `mark`.
@@ -49,6 +43,7 @@ fn alike_ahead(marks: &[u8], mark: u8) -> usize
     ensures { result ≡ alike mark marks.now }
 {
     let mut i = 0;
+    // A while: it goes on by strides, and ends at the first stride with another mark.
     while STEP <= marks.len() - i {
         let stop = i + STEP;
         if all_alike(&marks[i..stop], mark) {
@@ -69,10 +64,7 @@ fn run_ahead(marks: &[u8]) -> usize
     if mark == UNSET {
         return alike_ahead(marks, UNSET);
     }
-    if marks.len() <= RUN_WORDS {
-        return alike_ahead(marks, mark);
-    }
-    alike_ahead(&marks[0..RUN_WORDS], mark)
+    alike_ahead(&marks[..RUN_WORDS.min(marks.len())], mark)
 }
 
 // The field of a run whose words have this mark.
@@ -95,6 +87,7 @@ fn put_runs(out: &mut [u8], at: usize, words: &[u16], marks: &[u8]) -> usize
 {
     let mut i = 0;
     let mut end = at;
+    // A while: each turn passes one run, and the marks say how long it is.
     while i < marks.len() {
         let size = run_ahead(&marks[i..]);
         let stop = i + size;
@@ -123,6 +116,7 @@ fn runs_size(marks: &[u8]) -> usize
 {
     let mut i = 0;
     let mut size = 0;
+    // A while: each turn passes one run, and the marks say how long it is.
     while i < marks.len() {
         let n = run_ahead(&marks[i..]);
         size += run_bytes(marks[i], n);
@@ -157,16 +151,14 @@ pub fn put_blocks(
     requires marks_in_bounds { at + length (blocks_bytes n w blocks.now words.now marks.now) ≤ length out.old }
     ensures { Appended out.old out.new at result (blocks_bytes n w blocks.now words.now marks.now) }
 {
-    let mut k = 0;
     let mut end = at;
     let mut first = 0;
-    while k < n {
+    for k in 0..n {
         let i = k * BLOCK_CELLS;
         let start = blocks[i];
-        let stop = first + wide16(blocks[i + BLOCK_LENGTH]);
+        let stop = first + usize::from(blocks[i + BLOCK_LENGTH]);
         end = put_block(out, end, start, &words[first..stop], &marks[first..stop]);
         first = stop;
-        k += 1;
     }
     end
 }
@@ -177,15 +169,13 @@ pub fn blocks_size(blocks: &[u16], n: usize, marks: &[u8], w: usize) -> usize
     requires marks_ok { MarksOk w marks.now }
     ensures { BlocksSized n w blocks.now marks.now result }
 {
-    let mut k = 0;
     let mut first = 0;
     let mut size = 0;
-    while k < n {
+    for k in 0..n {
         let i = k * BLOCK_CELLS;
-        let stop = first + wide16(blocks[i + BLOCK_LENGTH]);
+        let stop = first + usize::from(blocks[i + BLOCK_LENGTH]);
         size += BLOCK_BYTES + runs_size(&marks[first..stop]);
         first = stop;
-        k += 1;
     }
     size
 }

@@ -42,9 +42,6 @@ module _ (ls ns : List ℕ) (k : ℕ) (v : LabelRow ls ns k) where
 
 -- of rows that are in order
 module _ {n : ℕ} {ls ns : List ℕ} (v : LabelsOk n ls ns) {k : ℕ} (l : k < n) where
-  pub cells-there : k * 4 + 4 ≤ length ls
-  cells-there = omega (arith, v.room)
-
   pub name-low : get_or ls (k * 4 + 3) 0 ≤ 64
   name-low = omega (arith, name-length ls ns k (v.rows k l), label-short n ls ns v k l)
 

@@ -10,7 +10,6 @@ ghost use Rattle.stored_write_labels.specs.Tables.{label_field, reloc_field, lab
 use base_capacities::{
     DEFINED, LABEL_CELLS, LABEL_FLAG, NAME_LENGTH, RELOCATION_CELLS, RELOCATION_LABEL,
 };
-use base_casts::{wide, word16};
 use stored_fields::{DEFINED_LABEL, EXTERNAL_LABEL, HEAD_BYTES, NUMBER_BYTES, RELOCATION};
 
 // The field of label row k.
@@ -25,7 +24,7 @@ fn put_label(out: &mut [u8], at: usize, labels: &[u32], names: &[u8], k: usize) 
     let i = k * LABEL_CELLS;
     let name = object::name_of(labels, names, k);
     if labels[i + LABEL_FLAG] == DEFINED {
-        let address = word16(labels[i]);
+        let address = labels[i] as u16;
         return stored_fields::put_addressed(out, at, DEFINED_LABEL, address, name);
     }
     stored_fields::put_named(out, at, EXTERNAL_LABEL, name)
@@ -37,11 +36,9 @@ pub fn put_labels(out: &mut [u8], at: usize, labels: &[u32], names: &[u8], n: us
     requires names_in_bounds { at + length (label_bytes n labels.now names.now) ≤ length out.old }
     ensures { Appended out.old out.new at result (label_bytes n labels.now names.now) }
 {
-    let mut k = 0;
     let mut end = at;
-    while k < n {
+    for k in 0..n {
         end = put_label(out, end, labels, names, k);
-        k += 1;
     }
     end
 }
@@ -62,9 +59,9 @@ fn put_relocation(
     ensures { Appended out.old out.new at result (reloc_field (reloc_row relocations.now labels.now names.now k)) }
 {
     let i = k * RELOCATION_CELLS;
-    let row = wide(relocations[i + RELOCATION_LABEL]);
+    let row = relocations[i + RELOCATION_LABEL] as usize;
     let name = object::label_name(labels, names, row);
-    let address = word16(relocations[i]);
+    let address = relocations[i] as u16;
     stored_fields::put_addressed(out, at, RELOCATION, address, name)
 }
 
@@ -82,11 +79,9 @@ pub fn put_relocations(
     requires names_in_bounds { at + length (reloc_bytes n relocations.now labels.now names.now) ≤ length out.old }
     ensures { Appended out.old out.new at result (reloc_bytes n relocations.now labels.now names.now) }
 {
-    let mut k = 0;
     let mut end = at;
-    while k < n {
+    for k in 0..n {
         end = put_relocation(out, end, relocations, labels, names, k);
-        k += 1;
     }
     end
 }
@@ -97,9 +92,9 @@ fn label_size(flag: u32, name: u32) -> usize
     ensures { result ≡ label_size flag name }
 {
     if flag == DEFINED {
-        return HEAD_BYTES + NUMBER_BYTES + wide(name);
+        return HEAD_BYTES + NUMBER_BYTES + name as usize;
     }
-    HEAD_BYTES + wide(name)
+    HEAD_BYTES + name as usize
 }
 
 // How many bytes the fields of the first n labels have. The names are not looked at, and the loop has no exit, so that many rows are added up at once.
@@ -107,12 +102,10 @@ pub fn labels_size(labels: &[u32], names: &[u8], n: usize) -> usize
     requires { LabelsOk n labels.now names.now }
     ensures { FieldsSized 1024 result (label_bytes n labels.now names.now) }
 {
-    let mut k = 0;
     let mut size = 0;
-    while k < n {
+    for k in 0..n {
         let i = k * LABEL_CELLS;
         size += label_size(labels[i + LABEL_FLAG], labels[i + NAME_LENGTH]);
-        k += 1;
     }
     size
 }
@@ -124,7 +117,7 @@ fn relocation_size(relocations: &[u32], labels: &[u32], names: &[u8], k: usize) 
     ensures { FieldSized result (reloc_field (reloc_row relocations.now labels.now names.now k)) }
 {
     let i = k * RELOCATION_CELLS;
-    let label = wide(relocations[i + RELOCATION_LABEL]);
+    let label = relocations[i + RELOCATION_LABEL] as usize;
     let name = object::label_name(labels, names, label);
     HEAD_BYTES + NUMBER_BYTES + name.len()
 }
@@ -134,11 +127,9 @@ pub fn relocations_size(relocations: &[u32], labels: &[u32], names: &[u8], n: us
     requires { RelocsNamed n relocations.now labels.now names.now }
     ensures { FieldsSized 1024 result (reloc_bytes n relocations.now labels.now names.now) }
 {
-    let mut k = 0;
     let mut size = 0;
-    while k < n {
+    for k in 0..n {
         size += relocation_size(relocations, labels, names, k);
-        k += 1;
     }
     size
 }

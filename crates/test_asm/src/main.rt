@@ -29,18 +29,19 @@ fn replay(data: &[u8], at: usize, src: &mut [u8], line: u64) -> usize {
     listing.next
 }
 
+// How many lines are replayed at most.
+const MOST_LINES: u64 = 100000;
+
 // Replays all lines and answers how many there are.
 fn replay_all(data: &[u8], src: &mut [u8]) -> u64 {
     let mut at: usize = 0;
-    let mut line: u64 = 0;
-    while line < 100000 {
+    for line in 0..MOST_LINES {
         if data.len() <= at {
             return line;
         }
         at = replay(data, at, src, line);
-        line += 1;
     }
-    line
+    MOST_LINES
 }
 
 // How many bytes a file has at most, and a source.

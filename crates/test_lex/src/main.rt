@@ -1,17 +1,16 @@
 // Replays token vectors against the lexer, writes those that differ, and at the end how many were replayed.
 #![tactic(auto)]
 
-use base_casts::{wide8, word8};
+use base_refusals::Fault;
 use lc3_input::STDOUT_FILENO;
 use lex_literals::StringChar;
 use lex_reserved::Ident;
-use lex_source::Lexed;
 use lex_token::{Next, Token};
 use std::fs::File;
 use std::num::{wrapping_add_u16, wrapping_add_usize};
 
 // An answer of a vector, as data/README.md says: its sort and value, its span, and how many bytes its text has with their checksum.
-#[derive(Clone, Copy)]
+#[derive(Clone, Copy, PartialEq, Eq)]
 struct Row {
     sort: u8,
     value: u16,
@@ -31,8 +30,8 @@ struct Sum {
 
 // Two bytes of the data, the low one first.
 fn two_at(data: &[u8], at: usize) -> usize {
-    wide8(base_text::byte_at(data, at))
-        | (wide8(base_text::byte_at(data, wrapping_add_usize(at, 1))) << 8)
+    usize::from(base_text::byte_at(data, at))
+        | (usize::from(base_text::byte_at(data, wrapping_add_usize(at, 1))) << 8)
 }
 
 fn four_at(data: &[u8], at: usize) -> usize {
@@ -40,8 +39,8 @@ fn four_at(data: &[u8], at: usize) -> usize {
 }
 
 fn value_at(data: &[u8], at: usize) -> u16 {
-    word8(base_text::byte_at(data, at))
-        | (word8(base_text::byte_at(data, wrapping_add_usize(at, 1))) << 8)
+    u16::from(base_text::byte_at(data, at))
+        | (u16::from(base_text::byte_at(data, wrapping_add_usize(at, 1))) << 8)
 }
 
 // A row of the data.
@@ -56,17 +55,8 @@ fn row_at(data: &[u8], at: usize) -> Row {
     }
 }
 
-fn same_row(a: Row, b: Row) -> bool {
-    (a.sort == b.sort)
-        & (a.value == b.value)
-        & (a.start == b.start)
-        & (a.end == b.end)
-        & (a.count == b.count)
-        & (a.sum == b.sum)
-}
-
 fn added(s: Sum, b: u8) -> Sum {
-    let one = wrapping_add_u16(s.one, word8(b));
+    let one = wrapping_add_u16(s.one, u16::from(b));
     Sum {
         count: wrapping_add_usize(s.count, 1),
         one,
@@ -81,10 +71,8 @@ fn text_sum(part: &[u8]) -> Sum {
         one: 0,
         two: 0,
     };
-    let mut i = 0;
-    while i < part.len() {
-        sum = added(sum, base_text::upper_case(part[i]));
-        i += 1;
+    for b in part {
+        sum = added(sum, base_text::upper_case(*b));
     }
     sum
 }
@@ -97,14 +85,11 @@ fn string_sum(src: &[u8], at: usize) -> Sum {
         two: 0,
     };
     let mut i = at;
-    let mut turns: u32 = 400000;
-    while turns > 0 {
-        let char = lex_literals::string_char(src, i);
-        match char {
+    for _ in 0..400000 {
+        match lex_literals::string_char(src, i) {
             StringChar::Char { byte, next } => {
                 sum = added(sum, byte);
                 i = next;
-                turns -= 1;
             }
             StringChar::Done => {
                 return sum;
@@ -139,7 +124,7 @@ fn text_row(sort: u8, value: u16, start: usize, end: usize, text: Sum) -> Row {
 fn ident_row(src: &[u8], ident: Ident, start: usize, end: usize) -> Row {
     let text = text_sum(lex::label_text(src, start, end));
     match ident {
-        Ident::Reserved(code) => text_row(4, word8(code), start, end, text),
+        Ident::Reserved(code) => text_row(4, u16::from(code), start, end, text),
         Ident::Label => text_row(5, 0, start, end, text),
     }
 }
@@ -149,7 +134,7 @@ fn token_row(src: &[u8], token: Token, start: usize, end: usize) -> Row {
     match token {
         Token::Unsigned(n) => plain_row(1, n, start, end),
         Token::Signed(n) => plain_row(2, n, start, end),
-        Token::Reg(n) => plain_row(3, word8(n), start, end),
+        Token::Reg(n) => plain_row(3, u16::from(n), start, end),
         Token::Ident(ident) => ident_row(src, ident, start, end),
         Token::Directive => text_row(6, 0, start, end, text_sum(lex::label_text(src, next, end))),
         Token::String => text_row(7, 0, start, end, string_sum(src, next)),
@@ -167,10 +152,10 @@ fn next_row(src: &[u8], next: Next) -> Row {
     }
 }
 
-fn verdict_row(lexed: Lexed) -> Row {
+fn verdict_row(lexed: Result<(), Fault>) -> Row {
     match lexed {
-        Lexed::Clean => plain_row(12, 0, 0, 0),
-        Lexed::Fault { number, start, end } => plain_row(11, number, start, end),
+        Ok(()) => plain_row(12, 0, 0, 0),
+        Err(fault) => plain_row(11, fault.number, fault.start, fault.end),
     }
 }
 
@@ -178,49 +163,34 @@ fn verdict_row(lexed: Lexed) -> Row {
 fn rows_right(data: &[u8], at: usize, rows: usize, src: &[u8]) -> bool {
     let mut from = at;
     let mut place: usize = 0;
-    let mut left = rows;
-    while left > 0 {
+    for _ in 0..rows {
         let got = next_row(src, lex::next_token(src, place));
-        if same_row(got, row_at(data, from)) {
-            place = got.end;
-            from = wrapping_add_usize(from, 17);
-            left -= 1;
-        } else {
+        if got != row_at(data, from) {
             return false;
         }
+        place = got.end;
+        from = wrapping_add_usize(from, 17);
     }
     true
 }
 
 // Copies so many bytes of the data.
 fn copy(data: &[u8], from: usize, src: &mut [u8], at: usize, count: usize) -> usize {
-    let mut i = at;
-    let mut left = count;
-    let mut j = from;
-    while left > 0 {
-        if i < src.len() {
-            src[i] = base_text::byte_at(data, j);
-            i += 1;
-            j = wrapping_add_usize(j, 1);
-            left -= 1;
-        } else {
-            return i;
-        }
+    if src.len() <= at {
+        return at;
     }
-    i
+    let n = count.min(src.len() - at);
+    for (j, b) in src[at..at + n].iter_mut().enumerate() {
+        *b = base_text::byte_at(data, wrapping_add_usize(from, j));
+    }
+    at + n
 }
 
 // Whether a vector's source is answered as its rows and its verdict say.
 fn vector_right(data: &[u8], at: usize, rows: usize, src: &[u8]) -> bool {
     let verdict = past_rows(at, rows);
-    let right = same_row(
-        verdict_row(lex_source::first_refusal(src)),
-        row_at(data, verdict),
-    );
-    if right {
-        return rows_right(data, at, rows, src);
-    }
-    false
+    (verdict_row(lex_source::first_refusal(src)) == row_at(data, verdict))
+        && rows_right(data, at, rows, src)
 }
 
 // How a vector begins: the lengths of its source's parts, and how many rows it has.
@@ -276,18 +246,19 @@ fn replay(data: &[u8], at: usize, src: &mut [u8], number: u64) -> usize {
     wrapping_add_usize(past_rows(answers, header.rows), 17)
 }
 
+// How many vectors are replayed at most.
+const MOST_VECTORS: u64 = 100000;
+
 // Replays all vectors and answers how many there are.
 fn replay_all(data: &[u8], src: &mut [u8]) -> u64 {
     let mut at: usize = 0;
-    let mut number: u64 = 0;
-    while number < 100000 {
+    for number in 0..MOST_VECTORS {
         if data.len() <= at {
             return number;
         }
         at = replay(data, at, src, number);
-        number += 1;
     }
-    number
+    MOST_VECTORS
 }
 
 // How many bytes the file has at most, and a source.

@@ -313,18 +313,19 @@ fn replay_lacking(data: &[u8], lacking: Lacking, line: u64) -> usize {
     )
 }
 
+// How many lines are replayed at most.
+const MOST_LINES: u64 = 100000;
+
 // Replays all lines and answers how many there are.
 fn replay_all(data: &[u8]) -> u64 {
     let mut at: usize = 0;
-    let mut line: u64 = 0;
-    while line < 100000 {
+    for line in 0..MOST_LINES {
         if data.len() <= at {
             return line;
         }
         at = replay_lacking(data, test_replay::lacking_at(data, at), line);
-        line += 1;
     }
-    line
+    MOST_LINES
 }
 
 // Replays the lines of an open file, read into `data`, and answers how many there are.

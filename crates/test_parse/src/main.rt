@@ -1,9 +1,7 @@
 // Replays statement vectors against the statement reader, writes those that differ, and at the end how many were replayed.
 #![tactic(auto)]
 
-use base_casts::wide16;
 use lc3_input::STDOUT_FILENO;
-use parse::Statements;
 use std::fs::File;
 
 // A refusal by its number and place, or three zeros.
@@ -17,15 +15,15 @@ struct Answer {
 // The first refusal of a source.
 fn answer_of(src: &[u8]) -> Answer {
     match parse::check_source(src) {
-        Statements::Accepted => Answer {
+        Ok(()) => Answer {
             number: 0,
             start: 0,
             end: 0,
         },
-        Statements::Refused { number, start, end } => Answer {
-            number: wide16(number),
-            start,
-            end,
+        Err(fault) => Answer {
+            number: usize::from(fault.number),
+            start: fault.start,
+            end: fault.end,
         },
     }
 }
@@ -62,18 +60,19 @@ fn replay(data: &[u8], at: usize, src: &mut [u8], line: u64) -> usize {
     end.next
 }
 
+// How many lines are replayed at most.
+const MOST_LINES: u64 = 100000;
+
 // Replays all lines and answers how many there are.
 fn replay_all(data: &[u8], src: &mut [u8]) -> u64 {
     let mut at: usize = 0;
-    let mut line: u64 = 0;
-    while line < 100000 {
+    for line in 0..MOST_LINES {
         if data.len() <= at {
             return line;
         }
         at = replay(data, at, src, line);
-        line += 1;
     }
-    line
+    MOST_LINES
 }
 
 // How many bytes the file has at most, and a source.

@@ -2,10 +2,9 @@
 // with the small reader, and stored again. Writes the lines that differ, and at the end how many were replayed.
 #![tactic(auto)]
 
-use base_casts::wide8;
-use base_text::Order;
 use lc3_input::STDOUT_FILENO;
 use object_answer::{Answer, Written};
+use std::cmp::Ordering;
 use std::fs::File;
 use std::num::wrapping_add_usize;
 use stored_fields::{BLOCK, DEFINED_LABEL, EXTERNAL_LABEL, RELOCATION, SET_WORDS, UNSET_WORDS};
@@ -32,8 +31,8 @@ struct Met {
 }
 
 fn number_in(content: &[u8]) -> usize {
-    let high = wide8(base_text::byte_at(content, 0));
-    let low = wide8(base_text::byte_at(content, 1));
+    let high = usize::from(base_text::byte_at(content, 0));
+    let low = usize::from(base_text::byte_at(content, 1));
     high << 8 | low
 }
 
@@ -77,12 +76,10 @@ fn walk(bytes: &[u8]) -> Met {
         labels: 0,
         relocations: 0,
     };
-    let mut n = 0;
-    while n < bytes.len() {
+    for _ in 0..bytes.len() {
         match stored_reader::read_at(bytes, met.at) {
             Field::Found { tag, start, end } => {
                 met = meet(bytes, met, tag, start, end);
-                n += 1;
             }
             Field::CutShort => {
                 return met;
@@ -107,9 +104,9 @@ fn walked(bytes: &[u8], answer: Answer) -> bool {
 
 fn same_bytes(a: &[u8], b: &[u8]) -> bool {
     match base_text::compare_bytes(a, b) {
-        Order::Same => true,
-        Order::Less => false,
-        Order::Greater => false,
+        Ordering::Equal => true,
+        Ordering::Less => false,
+        Ordering::Greater => false,
     }
 }
 
@@ -245,18 +242,19 @@ fn replay(data: &[u8], lacking: Lacking, line: u64) -> usize {
     number.next
 }
 
+// How many lines are replayed at most.
+const MOST_LINES: u64 = 100000;
+
 // Replays all lines and answers how many there are.
 fn replay_all(data: &[u8]) -> u64 {
     let mut at: usize = 0;
-    let mut line: u64 = 0;
-    while line < 100000 {
+    for line in 0..MOST_LINES {
         if data.len() <= at {
             return line;
         }
         at = replay(data, test_replay::lacking_at(data, at), line);
-        line += 1;
     }
-    line
+    MOST_LINES
 }
 
 // Replays the lines of an open file, read into `data`, and answers how many there are.

@@ -1,14 +1,15 @@
 -- Fields read, byte by byte. Assumes nothing.
-use Prim.Native.Nat.{ℕ, suc, ◌+◌, ◌-◌, ◌*◌, ◌%◌, ◌≤◌, ◌<◌}
+use Prim.Native.Nat.{ℕ, suc, ◌+◌, ◌*◌, ◌/◌, ◌%◌, ◌≤◌, ◌<◌}
 use mathlib.Core.Path.{◌≡◌, refl, sym, ◌∙◌, ap}
 use mathlib.Core.Bool.{Bool, true, false}
-use mathlib.Core.List.{List, [], ◌∷◌}
+use mathlib.Core.List.{List, [], ◌∷◌, ◌++◌}
 use native.Mathlib.Omega.{arith}
-use borrow.Author.Tests.{ltb-true, ltb-false, lt-ltb, le-ltb, eq-eqb, ne_eqb}
-use lib.Dec.{eqb, ltb}
+use borrow.Author.Tests.{lt-ltb, le-ltb, eq-eqb, ne_eqb}
+use lib.Dec.{eqb}
 use lib.ListN.{length, get_or, length-drop}
 use Rattle.rules.specs.Base.{when◌then◌else◌, same}
 use Rattle.rules.specs.Tokens.{value}
+use Rattle.rules.proofs.Named.{same_true}
 use Rattle.base_text.specs.Runs.{from, run_end}
 use Rattle.base_text.specs.declared.Class.TheVariants.{Word, Digit}
 use Rattle.base_text.proofs.Rest.{from_start, from_step, from_end}
@@ -45,50 +46,61 @@ unfolding number_from
 counting-all {s} {v} {i} c h = sym (ap (number_from v) (from_end s i h)) ∙ c.same
 
 -- PAIRS OF DIGITS
-pub pair-next : (d : List ℕ) (i : ℕ) → i + 2 ≤ length d → unhexed (from d i) ≡ pair (get_or d i 0) (get_or d (i + 1) 0) ∷ unhexed (from d (i + 2))
+pub pair-next : (x s : List ℕ) → length x ≡ 2 → unhexed (x ++ s) ≡ pair (get_or x 0 0) (get_or x 1 0) ∷ unhexed s
 unfolding unhexed
-pair-next d i h =
+pair-next [] s h = absurd (omega arith)
+pair-next (a ∷ []) s h = absurd (let z : suc 0 ≡ 2 = h in omega arith)
+pair-next (a ∷ b ∷ []) s h = refl
+pair-next (a ∷ b ∷ c ∷ x) s h = absurd (let z : suc (suc (suc (length x))) ≡ 2 = h in omega arith)
+
+pub pair-none : (s : List ℕ) → length s < 2 → unhexed s ≡ []
+unfolding unhexed
+pair-none [] h = refl
+pair-none (a ∷ []) h = refl
+pair-none (a ∷ b ∷ s) h = absurd (let z : suc (suc (length s)) < 2 = h in omega arith)
+
+pair-at : (d : List ℕ) (i : ℕ) → i + 2 ≤ length d → unhexed (from d i) ≡ pair (get_or d i 0) (get_or d (i + 1) 0) ∷ unhexed (from d (i + 2))
+unfolding unhexed
+pair-at d i h =
     let e : i + 1 + 1 ≡ i + 2 = omega arith in
     rw (from_step d i (omega arith), from_step d (i + 1) (omega arith), e) refl
 
-few : (s : List ℕ) → length s < 2 → unhexed s ≡ []
+unhexed-length : (d : List ℕ) → length (unhexed d) ≡ length d / 2
 unfolding unhexed
-few [] h = refl
-few (a ∷ []) h = refl
-few (a ∷ b ∷ s) h = absurd (let z : suc (suc (length s)) < 2 = h in omega arith)
+unhexed-length [] = omega arith
+unhexed-length (a ∷ []) = let z : suc 0 / 2 ≡ 0 = omega arith in sym z
+unhexed-length (a ∷ b ∷ s) = let e = unhexed-length s in let z : suc (length (unhexed s)) ≡ suc (suc (length s)) / 2 = omega (arith, e) in z
 
-pub pair-none : (d : List ℕ) (i : ℕ) → i ≤ length d → length d - i < 2 → unhexed (from d i) ≡ []
+-- A TEXT AND DIGITS, side by side: what is left of both goes on with what was the same
+pub alike-length : (t d : List ℕ) → (length t ≡ length d / 2 → ⊥) → false ≡ same t (unhexed d)
+alike-length t d h = go (same t (unhexed d)) refl
+  where
+    go : (b : Bool) → same t (unhexed d) ≡ b → false ≡ same t (unhexed d)
+    go true e = absurd (h (ap length (same_true t (unhexed d) e) ∙ unhexed-length d))
+    go false e = sym e
+
+pub record Alike (t d : List ℕ) (i : ℕ) : Type 0 where
+  pub half : length t ≡ length d / 2
+  pub left : same (from t i) (unhexed (from d (2 * i))) ≡ same t (unhexed d)
+
+pub alike-start : (t d : List ℕ) → length t ≡ length d / 2 → Alike t d 0
+alike-start t d h = record { half = h; left = rw (from_start, from_start) refl }
+
+module _ {t d : List ℕ} {i v : ℕ} (a : Alike t d i) (h : i < length t) (q : v ≡ pair (get_or d (2 * i) 0) (get_or d (2 * i + 1) 0)) where
+  pub alike-more : get_or t i 0 ≡ v → Alike t d (i + 1)
+  alike-more e = record {
+    half = a.half;
+    left = let z : 2 * (i + 1) ≡ 2 * i + 2 = omega arith in rw z (sym (rw (from_step t i h, pair-at d (2 * i) (omega (arith, a.half)), ← q, eq-eqb (get_or t i 0) v e) refl) ∙ a.left);
+  }
+
+  pub alike-differs : (get_or t i 0 ≡ v → ⊥) → false ≡ same t (unhexed d)
+  alike-differs e = sym (rw (from_step t i h, pair-at d (2 * i) (omega (arith, a.half)), ← q, ne_eqb (get_or t i 0) v e) refl) ∙ a.left
+
+pub alike_end : {t d : List ℕ} {i : ℕ} → Alike t d i → length t ≤ i → i ≤ length t → true ≡ same t (unhexed d)
 unfolding from
-pair-none d i l h = few (from d i) (omega (arith, length-drop i d))
-
--- A TEXT AND DIGITS, side by side
-pub record Alike (t d : List ℕ) (i j : ℕ) : Type 0 where
-  pub within : j ≤ length d
-  pub same : same (from t i) (unhexed (from d j)) ≡ same t (unhexed d)
-
-pub alike-start : (t d : List ℕ) → Alike t d 0 0
-alike-start t d = record { within = omega arith; same = rw (from_start, from_start) refl }
-
-module _ {t d : List ℕ} {i j : ℕ} (a : Alike t d i j) where
-  pub alike-short : i < length t → length d - j < 2 → false ≡ same t (unhexed d)
-  alike-short h k = sym (rw (from_step t i h, pair-none d j a.within k) refl) ∙ a.same
-
-  module _ {v : ℕ} (h : i < length t) (k : 2 ≤ length d - j) (q : v ≡ pair (get_or d j 0) (get_or d (j + 1) 0)) where
-    pub alike-more : get_or t i 0 ≡ v → Alike t d (i + 1) (j + 2)
-    alike-more e = record {
-      within = omega (arith, a.within);
-      same = sym (rw (from_step t i h, pair-next d j (omega (arith, a.within)), ← q, eq-eqb (get_or t i 0) v e) refl) ∙ a.same;
-    }
-
-    pub alike-differs : (get_or t i 0 ≡ v → ⊥) → false ≡ same t (unhexed d)
-    alike-differs e = sym (rw (from_step t i h, pair-next d j (omega (arith, a.within)), ← q, ne_eqb (get_or t i 0) v e) refl) ∙ a.same
-
-  pub alike_end : length t ≤ i → ltb (length d - j) 2 ≡ same t (unhexed d)
-  alike_end h = go (ltb (length d - j) 2) refl
-    where
-      go : (b : Bool) → ltb (length d - j) 2 ≡ b → b ≡ same t (unhexed d)
-      go true e = sym (rw (from_end t i h, pair-none d j a.within (ltb-true (length d - j) 2 e)) refl) ∙ a.same
-      go false e = sym (rw (from_end t i h, pair-next d j (omega (arith, a.within, ltb-false (length d - j) 2 e))) refl) ∙ a.same
+alike_end {t} {d} {i} a h k =
+    let l : length (from d (2 * i)) < 2 = omega (arith, a.half, length-drop (2 * i) d) in
+    sym (rw (from_end t i h, pair-none (from d (2 * i)) l) refl) ∙ a.left
 
 -- FIELDS
 pub decimal-is : (s : List ℕ) (i : ℕ) {e n m : ℕ} {t : List ℕ} → e ≡ run_end Digit s i → t ≡ between s i e → n ≡ number_of t → m ≡ past s e → record { value = n; next = m } ≡ decimal_at s i

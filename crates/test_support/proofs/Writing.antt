@@ -1,64 +1,48 @@
 -- Bytes of digits, bytes and texts written one behind the other. Assumes nothing.
-use Prim.Native.Nat.{ℕ, zero, suc, ◌+◌, ◌-◌, ◌≤◌, ◌<◌}
+use Prim.Native.Nat.{ℕ, zero, suc, ◌+◌, ◌-◌, ◌≤◌, ◌<◌, min}
 use mathlib.Core.Path.{◌≡◌, refl, sym, ◌∙◌, ap}
 use mathlib.Core.List.{List, [], ◌∷◌, ◌++◌, append_assoc, append-nil}
 use native.Mathlib.Numerals.{add-one}
 use native.Mathlib.Omega.{arith}
-use lib.ListN.{length, get_or, replicate-append-replicate}
-use Rattle.base_text.specs.Runs.{from}
-use Rattle.base_text.proofs.Rest.{from_start}
+use lib.ListN.{length, get_or, take, drop, replicate}
+use borrow.Rule.Slice.PartMut.{put_mid}
 use Rattle.view_text.specs.Put.{Put}
-use Rattle.view_text.proofs.Putting.{put-none, put_same, put-size, put-more}
+use Rattle.view_text.proofs.Putting.{put-none, put_same, put-size, put-more, fill-in}
 use Rattle.test_support.specs.declared.Taken.{Taken}
 use Rattle.test_support.specs.declared.Part.{Part}
 use Rattle.test_support.specs.Fields.{between, decimal_at, part_at}
 use Rattle.test_support.specs.Sources.{pair, unhexed, copies, repeated, source_at, bytes_in, source_text, WroteSource}
 use Rattle.test_support.proofs.Reading.{pair-next, pair-none}
 
--- PAIRS OF DIGITS: those before i are written
-pub record Unhexing (d b c : List ℕ) (at end i : ℕ) : Type 0 where
-  pub within : i ≤ length d
+-- PAIRS OF DIGITS: the rest of the digits goes on with what is written
+pub record Unhexing (d b c : List ℕ) (at end : ℕ) (rest : List ℕ) (size : ℕ) : Type 0 where
+  pub two : size ≡ 2
   pub done : List ℕ
   pub put : Put b c at end done
-  pub rest : done ++ unhexed (from d i) ≡ unhexed d
+  pub same : done ++ unhexed rest ≡ unhexed d
 
-pub unhexing-start : (d b : List ℕ) (at : ℕ) → Unhexing d b b at at 0
-unhexing-start d b at = record { within = omega arith; done = []; put = put-none b at; rest = rw from_start refl }
+pub unhexing-start : (d b : List ℕ) (at : ℕ) {r : List ℕ} {s : ℕ} → r ≡ d → s ≡ 2 → Unhexing d b b at at r s
+unhexing-start d b at e f = record { two = f; done = []; put = put-none b at; same = ap unhexed e }
 
-module _ {d b c : List ℕ} {at m i : ℕ} (u : Unhexing d b c at m i) where
-  pub unhexing-more : {f : List ℕ} {e v : ℕ} → 2 ≤ length d - i → v ≡ pair (get_or d i 0) (get_or d (i + 1) 0) → Put c f m e (v ∷ []) → Unhexing d b f at e (i + 2)
-  unhexing-more {f} {e} {v} h q p = record {
-    within = omega (arith, u.within);
+module _ {d b c : List ℕ} {at m s : ℕ} {r : List ℕ} (u : Unhexing d b c at m r s) where
+  pub unhexing-more : (x : List ℕ) {f o : List ℕ} {e v n : ℕ} → r ≡ x ++ o → length x ≡ s → n ≡ s → v ≡ pair (get_or x 0 0) (get_or x 1 0) → Put c f m e (v ∷ []) → Unhexing d b f at e o n
+  unhexing-more x {f} {o} {e} {v} h l z q p = record {
+    two = z ∙ u.two;
     done = u.done ++ (v ∷ []);
     put = put-more u.put p;
-    rest = append_assoc u.done (v ∷ []) (unhexed (from d (i + 2))) ∙ (ap (λ (l : List ℕ). u.done ++ l) (rw q (sym (pair-next d i (omega (arith, u.within))))) ∙ u.rest);
+    same = append_assoc u.done (v ∷ []) (unhexed o) ∙ (ap (λ (k : List ℕ). u.done ++ k) (rw (q, h) (sym (pair-next x o (l ∙ u.two)))) ∙ u.same);
   }
 
   pub unhexing-size : length c ≡ length b
   unhexing-size = put-size u.put
 
-  pub unhexing-all : length d - i < 2 → Put b c at m (unhexed d)
-  unhexing-all h = put_same (sym (append-nil u.done) ∙ (ap (λ (l : List ℕ). u.done ++ l) (sym (pair-none d i u.within h)) ∙ u.rest)) u.put
+  pub unhexing-all : length r < s → Put b c at m (unhexed d)
+  unhexing-all h = put_same (sym (append-nil u.done) ∙ (ap (λ (l : List ℕ). u.done ++ l) (sym (pair-none r (rw u.two at h))) ∙ u.same)) u.put
 
--- A BYTE, i times of n
-pub record Copying (n x : ℕ) (b c : List ℕ) (at end i : ℕ) : Type 0 where
-  pub within : i ≤ n
-  pub put : Put b c at end (copies i x)
-
-pub copying-start : (n x : ℕ) (b : List ℕ) (at : ℕ) → Copying n x b b at at 0
+-- A BYTE, so many times
+pub copies-in : {b r : List ℕ} (at n g x : ℕ) → at < length b → n ≡ min g (length b - at) → r ≡ replicate (length (take (at + n - at) (drop at b))) x → Put b (put_mid at (at + n - at) b r) at (at + n) (copies g x)
 unfolding copies
-copying-start n x b at = record { within = omega arith; put = put-none b at }
-
-module _ {n x : ℕ} {b c : List ℕ} {at m i : ℕ} (u : Copying n x b c at m i) where
-  pub copying-more : {f : List ℕ} {e : ℕ} → i < n → Put c f m e (x ∷ []) → Copying n x b f at e (i + 1)
-  unfolding copies
-  copying-more h p = record { within = omega arith; put = put_same (replicate-append-replicate i 1 x) (put-more u.put p) }
-
-  pub copying-size : length c ≡ length b
-  copying-size = put-size u.put
-
-  pub copying-all : n ≤ i → Put b c at m (copies n x)
-  copying-all h = let e : i ≡ n = omega (arith, u.within) in put_same (ap (λ (k : ℕ). copies k x) e) u.put
+copies-in at n g x h e p = fill-in at n g x h e p
 
 -- A TEXT, i times of n
 repeated-more : (i : ℕ) (t : List ℕ) → repeated i t ++ t ≡ repeated (suc i) t

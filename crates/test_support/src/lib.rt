@@ -8,7 +8,6 @@ ghost use Rattle.test_support.specs.Fields.{past, between, number_of, decimal_at
 ghost use Rattle.test_support.specs.Sources.{pair, unhexed, copies, repeated, WroteSource};
 ghost use Rattle.test_support.specs.Telling.{digit_of, differs_text};
 
-use base_casts::{wide8, word8};
 use base_text::Class;
 use view_text::put_byte;
 
@@ -58,11 +57,9 @@ fn number_of(digits: &[u8]) -> usize
     ensures { result ≡ number_of digits.now }
 {
     let mut value: usize = 0;
-    let mut i = 0;
-    while i < digits.len() {
-        let digit = wide8(base_text::digit_value(digits[i]));
+    for b in digits {
+        let digit = usize::from(base_text::digit_value(*b));
         value = (value * 10 + digit) % TWELVE_DIGITS;
-        i += 1;
     }
     value
 }
@@ -114,21 +111,18 @@ const HEX: u16 = 16;
 fn pair(high: u8, low: u8) -> u8
     ensures { result ≡ pair high low }
 {
-    let first = word8(base_text::digit_value(high));
-    let second = word8(base_text::digit_value(low));
-    base_casts::byte((first * HEX + second) % BYTES)
+    let first = u16::from(base_text::digit_value(high));
+    let second = u16::from(base_text::digit_value(low));
+    ((first * HEX + second) % BYTES) as u8
 }
 
 // Writes the bytes that pairs of hexadecimal digits stand for from `at` on, as far as they fit, and answers the place behind them.
 pub fn unhex(digits: &[u8], out: &mut [u8], at: usize) -> usize
     ensures { Put out.old out.new at result (unhexed digits.now) }
 {
-    let mut i = 0;
     let mut end = at;
-    while 2 <= digits.len() - i {
-        let next = i + 1;
-        end = put_byte(out, end, pair(digits[i], digits[next]));
-        i += 2;
+    for two in digits.chunks_exact(2) {
+        end = put_byte(out, end, pair(two[0], two[1]));
     }
     end
 }
@@ -137,24 +131,21 @@ pub fn unhex(digits: &[u8], out: &mut [u8], at: usize) -> usize
 pub fn repeat(out: &mut [u8], at: usize, byte: u8, count: usize) -> usize
     ensures { Put out.old out.new at result (copies count byte) }
 {
-    let mut i = 0;
-    let mut end = at;
-    while i < count {
-        end = put_byte(out, end, byte);
-        i += 1;
+    if at < out.len() {
+        let n = count.min(out.len() - at);
+        out[at..at + n].fill(byte);
+        return at + n;
     }
-    end
+    at
 }
 
 // Writes what hexadecimal digits stand for so many times, as far as it fits, and answers the place behind.
 fn repeat_hex(digits: &[u8], out: &mut [u8], at: usize, count: usize) -> usize
     ensures { Put out.old out.new at result (repeated count (unhexed digits.now)) }
 {
-    let mut i = 0;
     let mut end = at;
-    while i < count {
+    for _ in 0..count {
         end = unhex(digits, out, end);
-        i += 1;
     }
     end
 }
@@ -180,21 +171,15 @@ pub fn write_source(text: &[u8], at: usize, out: &mut [u8]) -> Taken
 pub fn same_hex(text: &[u8], digits: &[u8]) -> bool
     ensures { result ≡ same text.now (unhexed digits.now) }
 {
-    let mut i = 0;
-    let mut j = 0;
-    while i < text.len() {
-        if digits.len() - j < 2 {
-            return false;
-        }
-        let next = j + 1;
-        if text[i] == pair(digits[j], digits[next]) {
-            i += 1;
-            j += 2;
-        } else {
+    if text.len() != digits.len() / 2 {
+        return false;
+    }
+    for (i, b) in text.iter().enumerate() {
+        if *b != pair(digits[2 * i], digits[2 * i + 1]) {
             return false;
         }
     }
-    digits.len() - j < 2
+    true
 }
 
 // The last decimal digit of a number.

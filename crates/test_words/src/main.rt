@@ -5,7 +5,6 @@ ghost use Rattle.std.specs.Prelude.{◌<◌};
 
 use isa::disassembly::Line;
 use isa::{AsmInstr, ImmOrReg};
-use isa_fields::Encoded;
 use lc3_input::STDOUT_FILENO;
 use std::fs::File;
 
@@ -192,10 +191,7 @@ fn is_apart(word: u16) -> bool {
 }
 
 fn encodes_back(instr: AsmInstr, word: u16) -> bool {
-    match isa::encode(instr) {
-        Encoded::Bits(b) => b == word,
-        Encoded::Outside => false,
-    }
+    isa::encode(instr) == Some(word)
 }
 
 fn one_more(n: u32) -> u32 {
@@ -266,11 +262,9 @@ fn count_run(list: &[u8], at: usize, counts: Counts) -> Counts
     let first = hex_at(list, at);
     let n = hex_at(list, at + 5);
     let mut c = counts;
-    let mut i: u16 = 0;
-    while i < n {
+    for i in 0..n {
         let word = std::num::wrapping_add_u16(first, i);
         c = count_word(list, at, i, word, c);
-        i += 1;
     }
     c
 }
@@ -285,13 +279,8 @@ fn count_list(list: &[u8]) -> Counts {
         apart: 0,
         wrong: 0,
     };
-    let mut at: usize = 0;
-    while at < list.len() {
-        if 65500 <= at {
-            return c;
-        }
+    for at in (0..list.len().min(65500)).step_by(26) {
         c = count_run(list, at, c);
-        at += 26;
     }
     c
 }

@@ -10,7 +10,7 @@ use lib.Dec.{leb}
 use lib.ListN.{length, get_or, take, drop}
 use Rattle.rules.specs.Base.{when◌then◌else◌, Span, span, nowhere}
 use Rattle.rules.specs.Tokens.{token_in, directive, next_token, upper}
-use Rattle.rules.specs.Words.{Field, Row, find, instructions, directives}
+use Rattle.rules.specs.Words.{Field, find, instructions, directives}
 use Rattle.rules.specs.Statements.{Name, is_mark, as_word, as_directive, past_lines, past_labels, past_label, labels_at, name_at}
 use Rattle.rules.proofs.Bools.{never}
 use Rattle.rules.proofs.Ahead.{token-ends, names-on, names-done, label-in}

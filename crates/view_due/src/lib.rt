@@ -10,7 +10,6 @@ ghost use Rattle.parse_rows.specs.Rows.{fields_by};
 ghost use Rattle.view_due.specs.Wanted.{operand_or, due_from, row_of, due_behind, due_at, last_place, label_before};
 ghost use Rattle.view_due.specs.Coded.{meant, onward, span_of, Coding};
 
-use base_casts::wide16;
 use lex::next_lexeme;
 use lex_token::Lexeme;
 use parse_field::Field;
@@ -111,7 +110,7 @@ fn row_code(src: &[u8], t: Lexeme) -> usize
     ensures { (i : ℕ) → Stands src.now i t → Coding (row_of (kind_by src.now t.sort t)) result }
 {
     if t.sort == lex_token::RESERVED {
-        return wide16(t.value);
+        return usize::from(t.value);
     }
     if t.sort == lex_token::DIRECTIVE {
         if t.start < t.end {
@@ -157,6 +156,7 @@ fn last_label(src: &[u8], at: usize) -> Place
     let mut i = at;
     let mut start = 0;
     let mut end = 0;
+    // A loop: each label says where the next is looked for, until there is none.
     loop {
         match parse_labels::next_label(src, i) {
             NextLabel::Label {

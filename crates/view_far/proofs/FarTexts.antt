@@ -12,8 +12,8 @@ use Rattle.view_text.specs.Put.{Put}
 use Rattle.view_text.specs.Texts.{decimal, digits_in, counted}
 use Rattle.view_text.proofs.Putting.{put-none, put_same, put-more}
 use Rattle.view_far.specs.declared.Sought.TheVariants.{Operand, Label}
-use Rattle.view_far.specs.declared.Found.{Found}
-use Rattle.view_far.specs.declared.Found.TheVariants.{At, Nothing}
+use Rattle.std.specs.declared.option.Option as O
+use Rattle.std.specs.declared.option.Option.TheVariants.{Some, None}
 use Rattle.view_far.specs.Far.{aims_at, has_label, where_is, distance_text, reach_text, far_line, far_to, far_from, far_note}
 use Rattle.view_far.specs.Seeking.{tested, range_by, aimed, Pointed, Tells}
 use Rattle.view_far.proofs.Naming.{Aims, aims-found, between-name}
@@ -55,25 +55,25 @@ unfolding far_line
 line-put s st d z p v w x y a f = put-more (put-more (put-more (put-more (put-more (put-more p (put_same z v)) w) x) y) a) f
 
 -- FROM THE INSTRUCTION TO THE LABEL
-module _ (s : List ℕ) (st : Statement) (n : Between s st.label_start st.label_end) (r : Found) (t : Tells s (where_is (tested s (Label st.label_start st.label_end)) s) r) where
+module _ (s : List ℕ) (st : Statement) (n : Between s st.label_start st.label_end) (r : O.Option (Statement × ℕ)) (t : Tells s (where_is (tested s (Label st.label_start st.label_end)) s) r) where
   same_test : tested s (Label st.label_start st.label_end) ≡ has_label (name_from s st.label_start (st.label_end - st.label_start))
   unfolding tested
   same_test = rw (between-name s st.label_start st.label_end n) refl
 
-  pub label_small : (l : Statement) (b : ℕ) → r ≡ At l b → b < 65536
+  pub label_small : (l : Statement) (b : ℕ) → r ≡ Some (l, b) → b < 65536
   label_small l b q = (t.there l b q).small
 
-  pub to-there : {b c : List ℕ} {at e d : ℕ} (a : ℕ) (l : Statement) (v : ℕ) → r ≡ At l v → d ≡ offset v (a + 1) → Put b c at e (far_line s (aimed s st) d) → Put b c at e (far_to s a (aimed s st))
+  pub to-there : {b c : List ℕ} {at e d : ℕ} (a : ℕ) (l : Statement) (v : ℕ) → r ≡ Some (l, v) → d ≡ offset v (a + 1) → Put b c at e (far_line s (aimed s st) d) → Put b c at e (far_to s a (aimed s st))
   unfolding far_to
   to-there a l v q z p = rw (← same_test, (t.there l v q).is, far_to, ← z) p
 
-  pub to_none : (a : ℕ) (b : List ℕ) (at : ℕ) → r ≡ Nothing → Put b b at at (far_to s a (aimed s st))
+  pub to_none : (a : ℕ) (b : List ℕ) (at : ℕ) → r ≡ None → Put b b at at (far_to s a (aimed s st))
   unfolding far_to
   to_none a b at q = rw (← same_test, t.nowhere q, far_to) (put-none b at)
 
 -- THE NOTE
-module _ (s : List ℕ) (place : ℕ) (r : Found) (t : Tells s (where_is (tested s (Operand place)) s) r) where
-  module _ (st : Statement) (a : ℕ) (q : r ≡ At st a) where
+module _ (s : List ℕ) (place : ℕ) (r : O.Option (Statement × ℕ)) (t : Tells s (where_is (tested s (Operand place)) s) r) where
+  module _ (st : Statement) (a : ℕ) (q : r ≡ Some (st, a)) where
     it : Pointed s (where_is (aims_at place) s) st a
     unfolding tested
     it = t.there st a q
@@ -91,6 +91,6 @@ module _ (s : List ℕ) (place : ℕ) (r : Found) (t : Tells s (where_is (tested
     unfolding far_note far_from
     note-put p = rw (it.is, far_note, aim.is, far_from) p
 
-  pub note-none : (b : List ℕ) (at : ℕ) → r ≡ Nothing → Put b b at at (far_note s place)
+  pub note-none : (b : List ℕ) (at : ℕ) → r ≡ None → Put b b at at (far_note s place)
   unfolding far_note tested
   note-none b at q = rw (t.nowhere q, far_note) (put-none b at)

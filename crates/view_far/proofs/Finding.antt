@@ -1,4 +1,10 @@
 -- Statement after statement with its address, as the loop over them goes. Assumes nothing.
+use Rattle.std.specs.declared.result.Result.{Result}
+use Rattle.std.specs.declared.result.Result.TheVariants.{Ok, Err}
+use Rattle.std.specs.declared.option.Option as O
+use Rattle.std.specs.declared.option.Option.TheVariants.{Some, None}
+use Rattle.base_refusals.specs.declared.Fault.{Fault}
+use Rattle.base_refusals.specs.Refusals.{fault}
 use Prim.Native.Nat.{ℕ, ◌+◌, ◌%◌, ◌≤◌, ◌<◌}
 use mathlib.Core.Path.{◌≡◌, refl, sym, ◌∙◌, ap}
 use mathlib.Core.Bool.{Bool, true, false}
@@ -15,16 +21,10 @@ use Rattle.rules.proofs.Gave.{gave}
 use Rattle.rules.proofs.Following.{statements-on, statements-none, statements-refused}
 use Rattle.rules.proofs.Bools.{never}
 use Rattle.parse.specs.declared.Statement.{Statement}
-use Rattle.parse.specs.declared.NextStatement.{NextStatement}
-use Rattle.parse.specs.declared.NextStatement.TheVariants as next
-use Rattle.parse.specs.declared.Statements.{Statements}
-use Rattle.parse.specs.declared.Statements.TheVariants as all
 use Rattle.parse.specs.Coded.{coded_read, coded_statement, coded_statements, source_statements}
 use Rattle.parse.proofs.All.{WasRead, was_read, was-end, was-refused, source-long}
 use Rattle.parse_meaning.specs.Reading.{meant_op, Faithful}
 use Rattle.parse_meaning.proofs.Read.{faithful}
-use Rattle.view_far.specs.declared.Found.{Found}
-use Rattle.view_far.specs.declared.Found.TheVariants.{At, Nothing}
 use Rattle.view_far.specs.Far.{is_orig, address_after, Placed, placed, first_with, where_is}
 use Rattle.view_far.specs.Seeking.{Pointed, Tells}
 
@@ -41,16 +41,17 @@ module _ (src : List ℕ) (st : Statement) (a : ℕ) {b : Bool} (q : b ≡ is_or
       rw (z, ← k at s f) refl
 
 -- WHAT AN ANSWER TELLS
-tells_at : (s : List ℕ) (o : Option Placed) (st : Statement) (a : ℕ) → Pointed s o st a → Tells s o (At st a)
+tells_at : (s : List ℕ) (o : Option Placed) (st : Statement) (a : ℕ) → Pointed s o st a → Tells s o (Some (st, a))
 tells_at s o st a p = record {
   there = λ st' a' q. (
-      let x : st ≡ st' = cc in
-      let y : a ≡ a' = cc in
+      let z : ◌≡◌ {A = Statement × ℕ} (st, a) (st', a') = cc in
+      let x : st ≡ st' = λ i. (z i).0 in
+      let y : a ≡ a' = λ i. (z i).1 in
       rw (← x, ← y) p);
   nowhere = λ q. (never cc);
 }
 
-tells-nothing : (s : List ℕ) (o : Option Placed) → o ≡ none → Tells s o Nothing
+tells-nothing : (s : List ℕ) (o : Option Placed) → o ≡ none → Tells s o None
 tells-nothing s o e = record { there = λ st a q. (never cc); nowhere = λ q. e }
 
 -- THE LOOP: what is found among the statements from here on is what is found among all
@@ -67,8 +68,8 @@ pub going_start : (s : List ℕ) (p : Stmt → Bool) → Going s p 0 0
 unfolding statements
 going_start s p = record { small = omega arith; left = λ ss e. record { rest = ss; is = e; same = refl } }
 
-module _ (s : List ℕ) (p : Stmt → Bool) (at a : ℕ) (g : Going s p at a) (x : NextStatement) (h : x ≡ coded_statement (next_statement s at)) where
-  pub going_end : x ≡ next.End → (ss : List Stmt) → statements s ≡ ok ss → Tells s (first_with p 0 ss) Nothing
+module _ (s : List ℕ) (p : Stmt → Bool) (at a : ℕ) (g : Going s p at a) (x : Result (O.Option Statement) Fault) (h : x ≡ coded_statement (next_statement s at)) where
+  pub going_end : x ≡ Ok None → (ss : List Stmt) → statements s ≡ ok ss → Tells s (first_with p 0 ss) None
   unfolding first_with
   going_end q ss y =
       let l = g.left ss y in
@@ -76,14 +77,14 @@ module _ (s : List ℕ) (p : Stmt → Bool) (at a : ℕ) (g : Going s p at a) (x
       let n : ◌≡◌ {A = List Stmt} [] l.rest = cc in
       tells-nothing s (first_with p 0 ss) (sym l.same ∙ sym (ap (first_with p a) n))
 
-  pub going-stop : (n b e : ℕ) → x ≡ next.Refused n b e → (ss : List Stmt) → statements s ≡ ok ss → Tells s (first_with p 0 ss) Nothing
-  going-stop n b e q ss y =
+  pub going-stop : (f : Fault) → x ≡ Err f → (ss : List Stmt) → statements s ≡ ok ss → Tells s (first_with p 0 ss) None
+  going-stop f q ss y =
       let l = g.left ss y in
-      let w = was-refused (next_statement s at) n b e (sym h ∙ q) in
+      let w = was-refused (next_statement s at) f (sym h ∙ q) in
       let m : ok l.rest ≡ refused w.refusal = sym l.is ∙ statements-refused s at w.refusal w.is in
       never cc
 
-  module _ (st : Statement) (q : x ≡ next.Read st) where
+  module _ (st : Statement) (q : x ≡ Ok (Some st)) where
     it : WasRead (next_statement s at) st
     it = was_read (next_statement s at) st (sym h ∙ q)
 
@@ -117,7 +118,7 @@ module _ (s : List ℕ) (p : Stmt → Bool) (at a : ℕ) (g : Going s p at a) (x
       here : b ≡ p stmt
       here = k stmt true-to
 
-      pub going-found : b ≡ true → (ss : List Stmt) → statements s ≡ ok ss → Tells s (first_with p 0 ss) (At st a)
+      pub going-found : b ≡ true → (ss : List Stmt) → statements s ≡ ok ss → Tells s (first_with p 0 ss) (Some (st, a))
       unfolding first_with
       going-found z ss y =
           let w = after ss y in
@@ -139,27 +140,27 @@ module _ (s : List ℕ) (p : Stmt → Bool) (at a : ℕ) (g : Going s p at a) (x
           }
 
 -- THE WHOLE SOURCE
-module _ (s : List ℕ) (x : Statements) (h : x ≡ coded_statements (source_statements s)) where
-  pub source-short : x ≡ all.Accepted → length s ≤ 262144
+module _ (s : List ℕ) (x : Result (Unit {0}) Fault) (h : x ≡ coded_statements (source_statements s)) where
+  pub source-short : x ≡ Ok tt → length s ≤ 262144
   source-short e = go (dec_le (length s) 262144)
     where
       go : Dec (length s ≤ 262144) → length s ≤ 262144
       go (yes l) = l
-      go (no l) = let z : all.Refused 11 0 (length s) ≡ all.Accepted = source-long s (omega arith) ∙ (sym h ∙ e) in never cc
+      go (no l) = let z : Err (fault 11 0 (length s)) ≡ Ok tt = source-long s (omega arith) ∙ (sym h ∙ e) in never cc
 
-  pub source-tells : (p : Stmt → Bool) → x ≡ all.Accepted → (r : Found) → ((ss : List Stmt) → statements s ≡ ok ss → Tells s (first_with p 0 ss) r) → Tells s (where_is p s) r
+  pub source-tells : (p : Stmt → Bool) → x ≡ Ok tt → (r : O.Option (Statement × ℕ)) → ((ss : List Stmt) → statements s ≡ ok ss → Tells s (first_with p 0 ss) r) → Tells s (where_is p s) r
   unfolding coded_statements source_statements where_is
   source-tells p e r k = go (source_statements s) refl (sym h ∙ e)
     where
-      go : (o : Outcome (List Stmt)) → source_statements s ≡ o → coded_statements o ≡ all.Accepted → Tells s (where_is p s) r
+      go : (o : Outcome (List Stmt)) → source_statements s ≡ o → coded_statements o ≡ Ok tt → Tells s (where_is p s) r
       go (ok ss) q z = rw (q, where_is) (k ss (gave (lexed s) (λ ts. statements s) ss q).then')
       go (refused y) q z = never cc
 
-  pub source-none : (p : Stmt → Bool) (n a e : ℕ) → x ≡ all.Refused n a e → Tells s (where_is p s) Nothing
+  pub source-none : (p : Stmt → Bool) (f : Fault) → x ≡ Err f → Tells s (where_is p s) None
   unfolding coded_statements source_statements where_is
-  source-none p n a e y = tells-nothing s (where_is p s) (go (source_statements s) refl (sym h ∙ y))
+  source-none p f y = tells-nothing s (where_is p s) (go (source_statements s) refl (sym h ∙ y))
     where
-      go : (o : Outcome (List Stmt)) → source_statements s ≡ o → coded_statements o ≡ all.Refused n a e → where_is p s ≡ none
+      go : (o : Outcome (List Stmt)) → source_statements s ≡ o → coded_statements o ≡ Err f → where_is p s ≡ none
       go (ok ss) q z = never cc
       go (refused u) q z = rw (q, where_is) refl
 

@@ -11,8 +11,8 @@ use Rattle.parse.specs.declared.Statement.{Statement}
 use Rattle.parse_meaning.specs.Reading.{Faithful}
 use Rattle.view_far.specs.declared.Sought.{Sought}
 use Rattle.view_far.specs.declared.Sought.TheVariants.{Operand, Label}
-use Rattle.view_far.specs.declared.Found.{Found}
-use Rattle.view_far.specs.declared.Found.TheVariants.{At, Nothing}
+use Rattle.std.specs.declared.option.Option as O
+use Rattle.std.specs.declared.option.Option.TheVariants.{Some, None}
 use Rattle.view_far.specs.Far.{Placed, placed, aims_at, has_label}
 
 -- the name between two places, in upper case
@@ -33,9 +33,9 @@ pub record Pointed (s : List ℕ) (o : Option Placed) (st : Statement) (a : ℕ)
   pub small : a < 65536
 
 -- an answer that tells what was found
-pub record Tells (s : List ℕ) (o : Option Placed) (r : Found) : Type 0 where
-  pub there : (st : Statement) (a : ℕ) → r ≡ At st a → Pointed s o st a
-  pub nowhere : r ≡ Nothing → o ≡ none
+pub record Tells (s : List ℕ) (o : Option Placed) (r : O.Option (Statement × ℕ)) : Type 0 where
+  pub there : (st : Statement) (a : ℕ) → r ≡ Some (st, a) → Pointed s o st a
+  pub nowhere : r ≡ None → o ≡ none
 
 -- an instruction's field, by how many values it has
 abbrev pub range_by : ℕ → Range

@@ -11,8 +11,7 @@ ghost use Rattle.view_text.specs.Put.{Put};
 ghost use Rattle.view_far.specs.Far.{is_orig, is_instr, address_after, first_with, where_is, aims_at, named, distance_text, reach_text, far_line, far_to, far_note};
 ghost use Rattle.view_far.specs.Seeking.{name_at, tested, Tells, range_by, aimed};
 
-use base_casts::long32;
-use parse::{NextStatement, Statement, Statements};
+use parse::Statement;
 use parse_labels::NextLabel;
 use parse_rows::Op;
 use view_text::{put, put_byte, put_count};
@@ -24,39 +23,16 @@ pub enum Sought {
     Label { start: usize, end: usize },
 }
 
-// The statement, with its address.
-#[derive(Clone, Copy)]
-pub enum Found {
-    At(Statement, u32),
-    Nothing,
-}
-
 fn is_orig(op: Op) -> bool
     ensures { result ≡ is_orig (meant_op op) }
 {
-    match op {
-        Op::Orig => true,
-        Op::Instr => false,
-        Op::Fill => false,
-        Op::Blkw => false,
-        Op::Stringz => false,
-        Op::End => false,
-        Op::External => false,
-    }
+    matches!(op, Op::Orig)
 }
 
 fn is_instr(op: Op) -> bool
     ensures { result ≡ is_instr (meant_op op) }
 {
-    match op {
-        Op::Instr => true,
-        Op::Orig => false,
-        Op::Fill => false,
-        Op::Blkw => false,
-        Op::Stringz => false,
-        Op::End => false,
-        Op::External => false,
-    }
+    matches!(op, Op::Instr)
 }
 
 // The address behind a statement.
@@ -86,6 +62,7 @@ fn has_label(src: &[u8], at: usize, start: usize, end: usize) -> bool
     ensures { result ≡ named (name_at src.now start end) (labels_at src.now at) }
 {
     let mut i = at;
+    // A loop: each label says where the next is looked for, until there is none.
     loop {
         match parse_labels::next_label(src, i) {
             NextLabel::Label {
@@ -116,47 +93,31 @@ fn is_sought(src: &[u8], at: usize, st: Statement, sought: Sought) -> bool
     }
 }
 
-// The first such statement of a source whose statements are read.
-fn find(src: &[u8], sought: Sought) -> Found
+// The first such statement of a source whose statements are read, with its address.
+fn find(src: &[u8], sought: Sought) -> Option<(Statement, u32)>
     requires { length src.now ≤ 262144 }
     ensures { (ss : List Stmt) → statements src.now ≡ ok ss → Tells src.now (first_with (tested src.now sought) 0 ss) result }
 {
     let mut at = 0;
     let mut address: u32 = 0;
-    loop {
-        match parse::next_statement(src, at) {
-            NextStatement::Read(st) => {
-                if is_sought(src, at, st, sought) {
-                    return Found::At(st, address);
-                }
-                address = address_after(src, st, address);
-                at = st.next;
-            }
-            NextStatement::End => {
-                return Found::Nothing;
-            }
-            NextStatement::Refused {
-                number: _,
-                start: _,
-                end: _,
-            } => {
-                return Found::Nothing;
-            }
+    // A while: each statement says where the next begins, until the source ends.
+    while let Ok(Some(st)) = parse::next_statement(src, at) {
+        if is_sought(src, at, st, sought) {
+            return Some((st, address));
         }
+        address = address_after(src, st, address);
+        at = st.next;
     }
+    None
 }
 
 // The first such statement of any source; none where the source is refused before its passes.
-fn where_is(src: &[u8], sought: Sought) -> Found
+fn where_is(src: &[u8], sought: Sought) -> Option<(Statement, u32)>
     ensures { Tells src.now (where_is (tested src.now sought) src.now) result }
 {
     match parse::check_source(src) {
-        Statements::Accepted => find(src, sought),
-        Statements::Refused {
-            number: _,
-            start: _,
-            end: _,
-        } => Found::Nothing,
+        Ok(()) => find(src, sought),
+        Err(_) => None,
     }
 }
 
@@ -178,13 +139,13 @@ fn put_distance(out: &mut [u8], at: usize, offset: u32) -> usize
     ensures { Put out.old out.new at result (distance_text offset) }
 {
     if offset < SIGN {
-        let a = put_count(out, at, long32(offset), b"word");
+        let a = put_count(out, at, u64::from(offset), b"word");
         return put(out, a, b" after");
     }
     let b = put_count(
         out,
         at,
-        long32(base_capacities::ADDRESSES - offset),
+        u64::from(base_capacities::ADDRESSES - offset),
         b"word",
     );
     put(out, b, b" before")
@@ -230,8 +191,8 @@ fn put_from(out: &mut [u8], at: usize, src: &[u8], st: Statement, address: u32) 
     let start = st.label_start;
     let end = st.label_end;
     match where_is(src, Sought::Label { start, end }) {
-        Found::At(_, label) => put_line(out, at, src, st, offset_from(address, label)),
-        Found::Nothing => at,
+        Some((_, label)) => put_line(out, at, src, st, offset_from(address, label)),
+        None => at,
     }
 }
 
@@ -240,7 +201,7 @@ pub fn put_far(out: &mut [u8], at: usize, src: &[u8], place: usize) -> usize
     ensures { Put out.old out.new at result (far_note src.now place) }
 {
     match where_is(src, Sought::Operand(place)) {
-        Found::At(st, address) => put_from(out, at, src, st, address),
-        Found::Nothing => at,
+        Some((st, address)) => put_from(out, at, src, st, address),
+        None => at,
     }
 }

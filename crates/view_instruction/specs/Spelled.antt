@@ -1,4 +1,6 @@
 -- What the code's rows of mnemonics, operands and reaches mean. Assumes nothing.
+use Rattle.std.specs.declared.option.Option as O
+use Rattle.std.specs.declared.option.Option.TheVariants.{Some, None}
 use Rattle.std.specs.Prelude.{ℕ, List, [], ◌∷◌, ◌++◌, get_or, take}
 use Rattle.std.proofs.Math.Option.{Option, none, some}
 use Rattle.rules.specs.Base.{bytes}
@@ -8,8 +10,6 @@ use Rattle.view_instruction.specs.Lines.{Part, branch_keys}
 use Rattle.view_instruction.specs.Lines as L
 use Rattle.view_instruction.specs.declared.Operands.{Operands}
 use Rattle.view_instruction.specs.declared.Operands.TheVariants.{Nothing, Reg, RegReg, RegRegReg, RegRegNumber, Number, Offset, RegOffset, Vector}
-use Rattle.view_instruction.specs.declared.Reach.{Reach}
-use Rattle.view_instruction.specs.declared.Reach.TheVariants as R
 
 -- the mnemonics by their rows: BR's are its flags
 abbrev pub other_keys : List (List ℕ)
@@ -38,6 +38,6 @@ parts_of (Offset d) = L.offset d ∷ []
 parts_of (RegOffset a d) = L.reg a ∷ L.offset d ∷ []
 parts_of (Vector v) = L.vector v ∷ []
 
-unfoldable pub reached : Reach → Option ℕ
-reached (R.Offset d) = some d
-reached R.Nothing = none
+unfoldable pub reached : O.Option ℕ → Option ℕ
+reached (Some d) = some d
+reached None = none

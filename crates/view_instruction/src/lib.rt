@@ -8,18 +8,10 @@ ghost use Rattle.view_text.specs.Put.{Put};
 ghost use Rattle.view_instruction.specs.Lines.{reg, number, offset, vector, last_part, spelling, signed_text, part_text, space, parts_text, instr_text, line_text, parts_reach, line_reach};
 ghost use Rattle.view_instruction.specs.Spelled.{key_row, key_text, parts_of, reached};
 
-use base_casts::{long16, wide16};
 use base_text::Class;
 use isa::disassembly::Line;
 use isa::{AsmInstr, ImmOrReg};
 use view_text::{put, put_byte};
-
-// How far from the next word an instruction reaches, if it does.
-#[derive(Clone, Copy)]
-pub enum Reach {
-    Offset(u16),
-    Nothing,
-}
 
 // An instruction's operands: registers, a number, an offset from the next word, a trap's vector.
 #[derive(Clone, Copy)]
@@ -110,7 +102,7 @@ fn key_of(instr: AsmInstr) -> usize
         AsmInstr::ADD(_, _, _) => ADD,
         AsmInstr::AND(_, _, _) => AND,
         AsmInstr::NOT(_, _) => NOT,
-        AsmInstr::BR(nzp, _) => wide16(nzp % FLAG_SETS),
+        AsmInstr::BR(nzp, _) => usize::from(nzp % FLAG_SETS),
         AsmInstr::JMP(_) => JMP,
         AsmInstr::JSR(_) => JSR,
         AsmInstr::JSRR(_) => JSRR,
@@ -222,10 +214,10 @@ fn put_signed(out: &mut [u8], at: usize, d: u16) -> usize
 {
     if d < SIGN {
         let next = put(out, at, b"#");
-        return view_text::put_decimal(out, next, long16(d));
+        return view_text::put_decimal(out, next, u64::from(d));
     }
     let next = put(out, at, b"#-");
-    view_text::put_decimal(out, next, WORDS - long16(d))
+    view_text::put_decimal(out, next, WORDS - u64::from(d))
 }
 
 // A text and a signed number.
@@ -320,29 +312,29 @@ pub fn put_line(out: &mut [u8], at: usize, line: Line) -> usize
     }
 }
 
-// The offset among operands.
-fn operands_reach(operands: Operands) -> Reach
+// The offset among operands, if there is one.
+fn operands_reach(operands: Operands) -> Option<u16>
     ensures { reached result ≡ parts_reach (parts_of operands) }
 {
     match operands {
-        Operands::Nothing => Reach::Nothing,
-        Operands::Reg(_) => Reach::Nothing,
-        Operands::RegReg(_, _) => Reach::Nothing,
-        Operands::RegRegReg(_, _, _) => Reach::Nothing,
-        Operands::RegRegNumber(_, _, _) => Reach::Nothing,
-        Operands::Number(_) => Reach::Nothing,
-        Operands::Offset(d) => Reach::Offset(d),
-        Operands::RegOffset(_, d) => Reach::Offset(d),
-        Operands::Vector(_) => Reach::Nothing,
+        Operands::Nothing => None,
+        Operands::Reg(_) => None,
+        Operands::RegReg(_, _) => None,
+        Operands::RegRegReg(_, _, _) => None,
+        Operands::RegRegNumber(_, _, _) => None,
+        Operands::Number(_) => None,
+        Operands::Offset(d) => Some(d),
+        Operands::RegOffset(_, d) => Some(d),
+        Operands::Vector(_) => None,
     }
 }
 
-// How far a line reaches.
-pub fn line_reach(line: Line) -> Reach
+// How far from the next word a line reaches, if it does.
+pub fn line_reach(line: Line) -> Option<u16>
     ensures { reached result ≡ line_reach (meant_line line) }
 {
     match line {
         Line::Instr(instr) => operands_reach(operands_of(instr)),
-        Line::Fill(_) => Reach::Nothing,
+        Line::Fill(_) => None,
     }
 }

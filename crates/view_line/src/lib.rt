@@ -1,30 +1,11 @@
 // The line of a place in a source, as text for a terminal: the line, or a window of a long one, and carets under the place.
 #![tactic(auto)]
 
-ghost use Rattle.std.specs.Prelude.{◌≡◌, map, ◌-◌, ◌≤◌, min, length};
+ghost use Rattle.std.specs.Prelude.{◌≡◌, map, ◌≤◌, length};
 ghost use Rattle.view_text.specs.Put.{Put};
 ghost use Rattle.view_line.specs.Shown.{shown_byte, under_byte, window_start, window_stop, between, shown_line, carets, caret_line, underlined};
 
 use view_text::{put, put_byte};
-
-fn least(a: usize, b: usize) -> usize
-    ensures { result ≡ min a b }
-{
-    if a < b {
-        return a;
-    }
-    b
-}
-
-// How far b stands behind a; 0 where it does not.
-fn distance(a: usize, b: usize) -> usize
-    ensures { result ≡ b - a }
-{
-    if b < a {
-        return 0;
-    }
-    b - a
-}
 
 // The byte behind the last character that is shown.
 const DEL: u8 = 127;
@@ -43,11 +24,9 @@ fn shown(b: u8) -> u8
 fn put_shown(out: &mut [u8], at: usize, text: &[u8]) -> usize
     ensures { Put out.old out.new at result (map shown_byte text.now) }
 {
-    let mut i = 0;
     let mut end = at;
-    while i < text.len() {
-        end = put_byte(out, end, shown(text[i]));
-        i += 1;
+    for b in text {
+        end = put_byte(out, end, shown(*b));
     }
     end
 }
@@ -66,11 +45,9 @@ fn under(mark: u8, b: u8) -> u8
 fn put_under(out: &mut [u8], at: usize, mark: u8, text: &[u8]) -> usize
     ensures { Put out.old out.new at result (map (under_byte mark) text.now) }
 {
-    let mut i = 0;
     let mut end = at;
-    while i < text.len() {
-        end = put_byte(out, end, under(mark, text[i]));
-        i += 1;
+    for b in text {
+        end = put_byte(out, end, under(mark, *b));
     }
     end
 }
@@ -85,17 +62,17 @@ fn window_start(first: usize, last: usize, place: usize) -> usize
     requires { first ≤ place }
     ensures { (result ≡ window_start first last place) × (result ≤ place) }
 {
-    if distance(first, last) <= SHOWN_BYTES {
+    if last.saturating_sub(first) <= SHOWN_BYTES {
         return first;
     }
-    first + distance(BEFORE_PLACE, distance(first, place))
+    first + (place - first).saturating_sub(BEFORE_PLACE)
 }
 
 // Where it ends.
 fn window_stop(from: usize, last: usize) -> usize
     ensures { result ≡ window_stop from last }
 {
-    from + least(SHOWN_BYTES, distance(from, last))
+    from + last.saturating_sub(from).min(SHOWN_BYTES)
 }
 
 // A text that stands for bytes which are left out between two places; nothing where there are none.
@@ -169,5 +146,5 @@ pub fn put_underlined(out: &mut [u8], at: usize, src: &[u8], place: usize, end: 
     let from = window_start(first, last, place);
     let to = window_stop(from, last);
     let next = put_line(out, at, src, first, from, to, last);
-    put_caret_line(out, next, src, first, from, place, least(end, to))
+    put_caret_line(out, next, src, first, from, place, end.min(to))
 }

@@ -6,7 +6,6 @@ ghost use Rattle.parse_field.specs.Coded.{field_of};
 ghost use Rattle.view_text.specs.Put.{Put};
 ghost use Rattle.view_note.specs.Notes.{field_text, number_at, takes_text, operand_text, label_words, said_at, has_note, note_text};
 
-use base_casts::long16;
 use lex::next_lexeme;
 use parse_field::Field;
 use view_due::Due;
@@ -37,11 +36,11 @@ fn put_number(out: &mut [u8], at: usize, src: &[u8], place: usize) -> usize
 {
     let t = next_lexeme(src, place);
     if t.sort == lex_token::NUMBER {
-        return put_decimal(out, at, long16(t.value));
+        return put_decimal(out, at, u64::from(t.value));
     }
     if t.sort == lex_token::NEGATIVE {
         let next = put_byte(out, at, b'-');
-        return put_decimal(out, next, long16(t.value));
+        return put_decimal(out, next, u64::from(t.value));
     }
     at
 }

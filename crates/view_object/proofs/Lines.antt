@@ -9,10 +9,11 @@ use Rattle.view_text.proofs.Putting.{put-none, put_same, put-more}
 use Rattle.view_word.specs.First.{first}
 use Rattle.view_word.specs.Labels.{defined_row, last_at, reloc_at, own_lines}
 use Rattle.view_word.specs.Words.{set_line, unset_line, waiting_line}
-use Rattle.view_object.specs.Pieces.{Place, place, heading, place_of, block_line, above, marked_line, word_line, address_lines, address_text, placed_text, word_at, word_text, label_address, apart, external_line, bare_line, apart_line, gap_before, label_text, rest_text, piece_text}
+use Rattle.view_object.specs.Pieces.{place, heading, place_of, block_line, above, marked_line, word_line, address_lines, address_text, placed_text, word_at, word_text, label_address, apart, external_line, bare_line, apart_line, gap_before, label_text, rest_text, piece_text}
 use Rattle.view_object.specs.Found.{found}
+use Rattle.std.specs.Prelude.{Some, None}
+use Rattle.std.specs.declared.option.Option as O
 use Rattle.view_object.specs.declared.Place as D
-use Rattle.view_object.specs.declared.Place.TheVariants as DP
 
 -- a count, and what stands behind it
 pub counted-put : {b c d : List ℕ} {at m e : ℕ} (n x : ℕ) (w t : List ℕ) → x ≡ n → Put b c at m (counted x w) → Put c d m e t → Put b d at e (counted n w ++ t)
@@ -76,14 +77,14 @@ module _ (c : Counts) (ls rs ns : List ℕ) (w mark : ℕ) {b d f : List ℕ} {m
   unfolding placed_text
   placed-put start size before a q p r = put_same (rw q refl) (put-more p r)
 
-module _ (c : Counts) (u : Buffers) (i : ℕ) {b : List ℕ} {o : D.Place} where
+module _ (c : Counts) (u : Buffers) (i : ℕ) {b : List ℕ} {o : O.Option D.Place} where
   pub word_in :
-      (start size before : ℕ) {d : List ℕ} {e w mark : ℕ} → o ≡ DP.In start size before → found o ≡ place_of u.blocks c.blocks i → w ≡ get_or u.words i 0 → mark ≡ get_or u.marks i 0 →
-      Put b d 0 e (placed_text c u.labels u.relocs u.names (place start size before) w mark) → Put b d 0 e (word_text c u i)
+      (p : D.Place) {d : List ℕ} {e w mark : ℕ} → o ≡ Some p → found o ≡ place_of u.blocks c.blocks i → w ≡ get_or u.words i 0 → mark ≡ get_or u.marks i 0 →
+      Put b d 0 e (placed_text c u.labels u.relocs u.names (place p.start p.size p.before) w mark) → Put b d 0 e (word_text c u i)
   unfolding word_text word_at found
-  word_in start size before q f g h p = put_same (rw (sym f, q, g, h) refl) p
+  word_in p q f g h x = put_same (rw (sym f, q, g, h) refl) x
 
-  pub word_out : o ≡ DP.Nowhere → found o ≡ place_of u.blocks c.blocks i → Put b b 0 0 (word_text c u i)
+  pub word_out : o ≡ None → found o ≡ place_of u.blocks c.blocks i → Put b b 0 0 (word_text c u i)
   unfolding word_text word_at found
   word_out q f = put_same (rw (sym f, q) refl) (put-none b 0)
 

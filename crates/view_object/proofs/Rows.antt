@@ -1,5 +1,5 @@
 -- Blocks and labels read from their rows, and the place of a word. Assumes nothing.
-use Rattle.std.proofs.Common.{◌≡◌, ℕ, suc, ◌+◌, ◌-◌, ◌*◌, ◌%◌, ◌<◌, ◌≤◌, Bool, true, false, ltb, List, get_or, sym, refl, ◌∙◌, arith, le-ltb, lt-ltb}
+use Rattle.std.proofs.Common.{◌≡◌, ℕ, suc, ◌+◌, ◌-◌, ◌*◌, ◌%◌, ◌<◌, ◌≤◌, Bool, true, false, not, ltb, List, get_or, sym, refl, ◌∙◌, arith, le-ltb, lt-ltb}
 use mathlib.Core.Option.{none, some}
 use Rattle.rules.specs.Base.{when◌then◌else◌}
 use Rattle.rules.specs.Words.{offset}
@@ -61,13 +61,9 @@ unfolding label_address
 label-address ls k e q = q ∙ (rw (e, first_cell ls (k * 4)) refl)
 
 module _ (n : ℕ) (bs ls : List ℕ) (k : ℕ) {d t : Bool} {a : ℕ} where
-  pub apart_in : d ≡ defined_row ls k → d ≡ true → a ≡ label_address ls k → t ≡ has_word bs n a → t ≡ true → false ≡ apart n bs ls k
+  pub apart-defined : d ≡ defined_row ls k → d ≡ true → a ≡ label_address ls k → t ≡ has_word bs n a → not t ≡ apart n bs ls k
   unfolding apart when◌then◌else◌
-  apart_in p q r u v = rw (sym p, q, sym r, sym u, v) refl
-
-  pub apart_bare : d ≡ defined_row ls k → d ≡ true → a ≡ label_address ls k → t ≡ has_word bs n a → t ≡ false → true ≡ apart n bs ls k
-  unfolding apart when◌then◌else◌
-  apart_bare p q r u v = rw (sym p, q, sym r, sym u, v) refl
+  apart-defined p q r u = rw (sym p, q, sym r, sym u) refl
 
 pub apart-external : (n : ℕ) (bs ls : List ℕ) (k : ℕ) {d : Bool} → d ≡ defined_row ls k → d ≡ false → true ≡ apart n bs ls k
 unfolding apart when◌then◌else◌

@@ -1,7 +1,7 @@
 // An object as a person sees it, in pieces of text: what it has, each word beside its label and its disassembly, and the labels at no word.
 #![tactic(auto)]
 
-ghost use Rattle.std.specs.Prelude.{◌≡◌, ◌+◌, ◌*◌, ◌%◌, min, ◌++◌, slice_index};
+ghost use Rattle.std.specs.Prelude.{◌≡◌, ◌+◌, ◌*◌, ◌%◌, ◌++◌, slice_index};
 ghost use Rattle.rules.specs.Buffers.{six};
 ghost use Rattle.object.specs.Meaning.{counts};
 ghost use Rattle.view_text.specs.Put.{Put};
@@ -14,7 +14,6 @@ ghost use Rattle.view_object.specs.Found.{found};
 use base_capacities::{
     ADDRESSES, BLOCK_CELLS, BLOCK_LENGTH, LABEL_ADDRESS, RELOCATION_LABEL, UNSET,
 };
-use base_casts::{long, wide, wide16, word16, word32};
 use object::Counts;
 use std::num::wrapping_add_u16;
 use view_text::{put, put_byte, put_count, put_hex};
@@ -27,40 +26,34 @@ const BLOCK_START: usize = 0;
 
 // Where a word stands: its block's start and length, and how many words of the block come before it.
 #[derive(Clone, Copy)]
-enum Place {
-    In(u16, u16, u16),
-    Nowhere,
+struct Place {
+    start: u16,
+    size: u16,
+    before: u16,
 }
 
 // The word at a place; 0 past the end.
 fn word_at(words: &[u16], i: usize) -> u16
     ensures { result ≡ slice_index words.now i }
 {
-    if i < words.len() {
-        return words[i];
-    }
-    0
+    words.get(i).copied().unwrap_or(0)
 }
 
 // Cell i of block row k; 0 past the end.
 fn block_cell(blocks: &[u16], k: usize, i: usize) -> u16
     ensures { result ≡ slice_index blocks.now (k * 2 + i) }
 {
-    if blocks.len() / BLOCK_CELLS < k {
-        return 0;
-    }
-    let row = k * BLOCK_CELLS;
-    if i < blocks.len() - row {
-        return blocks[row + i];
-    }
-    0
+    blocks
+        .get(k.saturating_mul(BLOCK_CELLS).saturating_add(i))
+        .copied()
+        .unwrap_or(0)
 }
 
 // A count of something, and a text behind it.
 fn put_counted(out: &mut [u8], at: usize, n: usize, what: &[u8], behind: &[u8]) -> usize
     ensures { Put out.old out.new at result (counted n what.now ++ behind.now) }
 {
-    let a = put_count(out, at, long(n), what);
+    let a = put_count(out, at, n as u64, what);
     put(out, a, behind)
 }
 
@@ -76,22 +69,25 @@ pub fn put_heading(out: &mut [u8], c: Counts) -> usize
 }
 
 // Where word i stands among the words of n blocks.
-fn place_of(blocks: &[u16], n: usize, i: usize) -> Place
+fn place_of(blocks: &[u16], n: usize, i: usize) -> Option<Place>
     ensures { found result ≡ place_of blocks.now n i }
 {
-    let mut k = 0;
     let mut left = i;
-    while k < n {
+    for k in 0..n {
         let start = block_cell(blocks, k, BLOCK_START);
         let size = block_cell(blocks, k, BLOCK_LENGTH);
-        let width = wide16(size);
+        let width = usize::from(size);
         if left < width {
-            return Place::In(start, size, left as u16);
+            let before = left as u16;
+            return Some(Place {
+                start,
+                size,
+                before,
+            });
         }
         left -= width;
-        k += 1;
     }
-    Place::Nowhere
+    None
 }
 
 // The last address of a block.
@@ -110,7 +106,7 @@ fn put_block(out: &mut [u8], start: u16, size: u16) -> usize
     let c = put(out, b, b" to ");
     let d = put_hex(out, c, last_address(start, size));
     let e = put(out, d, b", ");
-    put_counted(out, e, wide16(size), b"word", b"\n")
+    put_counted(out, e, usize::from(size), b"word", b"\n")
 }
 
 // The same before a block's first word; nothing before another.
@@ -139,7 +135,7 @@ fn put_marked(
 {
     let row = view_word::relocation_row(relocations, c.relocations, address);
     if row < c.relocations {
-        let external = wide(view_word::relocation_cell(relocations, row, RELOCATION_LABEL));
+        let external = view_word::relocation_cell(relocations, row, RELOCATION_LABEL) as usize;
         return view_word::put_waiting(out, at, labels, names, c.labels, k, address, external);
     }
     view_word::put_set(out, at, labels, names, c.labels, k, address, word)
@@ -203,16 +199,14 @@ fn put_placed(
     labels: &[u32],
     relocations: &[u32],
     names: &[u8],
-    start: u16,
-    size: u16,
-    before: u16,
+    at: Place,
     word: u16,
     mark: u8,
 ) -> usize
-    ensures { Put out.old out.new 0 result (placed_text (counts c) labels.now relocations.now names.now (place start size before) word mark) }
+    ensures { Put out.old out.new 0 result (placed_text (counts c) labels.now relocations.now names.now (place at.start at.size at.before) word mark) }
 {
-    let a = put_above(out, start, size, before);
-    let address = wrapping_add_u16(start, before);
+    let a = put_above(out, at.start, at.size, at.before);
+    let address = wrapping_add_u16(at.start, at.before);
     put_address(out, a, c, labels, relocations, names, address, word, mark)
 }
 
@@ -231,23 +225,12 @@ fn put_word_piece(
     ensures { Put out.old out.new 0 result (word_text (counts c) (six blocks.now words.now marks.now labels.now relocations.now names.now) i) }
 {
     match place_of(blocks, c.blocks, i) {
-        Place::In(start, size, before) => {
+        Some(place) => {
             let word = word_at(words, i);
             let mark = base_text::byte_at(marks, i);
-            put_placed(
-                out,
-                c,
-                labels,
-                relocations,
-                names,
-                start,
-                size,
-                before,
-                word,
-                mark,
-            )
+            put_placed(out, c, labels, relocations, names, place, word, mark)
         }
-        Place::Nowhere => 0,
+        None => 0,
     }
 }
 
@@ -255,21 +238,19 @@ fn put_word_piece(
 fn covers_at(blocks: &[u16], k: usize, address: u16) -> bool
     ensures { result ≡ covers blocks.now address k }
 {
-    let start = word32(block_cell(blocks, k, BLOCK_START));
-    let size = word32(block_cell(blocks, k, BLOCK_LENGTH));
-    (word32(address) + (ADDRESSES - start)) % ADDRESSES < size
+    let start = u32::from(block_cell(blocks, k, BLOCK_START));
+    let size = u32::from(block_cell(blocks, k, BLOCK_LENGTH));
+    (u32::from(address) + (ADDRESSES - start)) % ADDRESSES < size
 }
 
 // The first of n blocks that has a word at an address; n where there is none.
 fn block_row(blocks: &[u16], n: usize, address: u16) -> usize
     ensures { result ≡ first (covers blocks.now address) n }
 {
-    let mut row = 0;
-    while row < n {
+    for row in 0..n {
         if covers_at(blocks, row, address) {
             return row;
         }
-        row += 1;
     }
     n
 }
@@ -285,7 +266,7 @@ fn has_word(blocks: &[u16], n: usize, address: u16) -> bool
 fn label_address(labels: &[u32], k: usize) -> u16
     ensures { result ≡ label_address labels.now k }
 {
-    word16(view_word::label_cell(labels, k, LABEL_ADDRESS) % ADDRESSES)
+    (view_word::label_cell(labels, k, LABEL_ADDRESS) % ADDRESSES) as u16
 }
 
 // Whether label row k is external, or defined where no word of n blocks is.
@@ -293,10 +274,7 @@ fn is_apart(blocks: &[u16], n: usize, labels: &[u32], k: usize) -> bool
     ensures { result ≡ apart n blocks.now labels.now k }
 {
     if view_word::is_defined(labels, k) {
-        if has_word(blocks, n, label_address(labels, k)) {
-            return false;
-        }
-        return true;
+        return !has_word(blocks, n, label_address(labels, k));
     }
     true
 }
@@ -305,12 +283,10 @@ fn is_apart(blocks: &[u16], n: usize, labels: &[u32], k: usize) -> bool
 fn apart_row(blocks: &[u16], n: usize, labels: &[u32], m: usize) -> usize
     ensures { result ≡ first (apart n blocks.now labels.now) m }
 {
-    let mut row = 0;
-    while row < m {
+    for row in 0..m {
         if is_apart(blocks, n, labels, row) {
             return row;
         }
-        row += 1;
     }
     m
 }
@@ -429,19 +405,9 @@ pub fn put_piece(
     )
 }
 
-// The sum of two numbers; the greatest number where it is past that.
-fn plus(m: usize, n: usize) -> usize
-    ensures { result ≡ min (m + n) 18446744073709551615 }
-{
-    if n < usize::MAX - m {
-        return m + n;
-    }
-    usize::MAX
-}
-
 // How many pieces an object has.
 pub fn pieces(c: Counts) -> usize
     ensures { result ≡ piece_count (counts c) }
 {
-    plus(plus(1, c.words), c.labels)
+    1usize.saturating_add(c.words).saturating_add(c.labels)
 }

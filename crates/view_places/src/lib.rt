@@ -2,30 +2,14 @@
 #![tactic(auto)]
 
 ghost use Rattle.std.specs.Prelude.{◌≡◌, ◌≤◌, ◌<◌, length};
-ghost use Rattle.view_places.specs.Lines.{feed, feeds, moved, since, line_start, ends_line, line_stop};
+ghost use Rattle.view_places.specs.Lines.{feeds, moved, since, line_start, ends_line, line_stop};
 ghost use Rattle.view_places.specs.Names.{name_row};
-
-// One for a line feed, none for another byte.
-fn feed_of(b: u8) -> usize
-    ensures { result ≡ feed b }
-{
-    if b == b'\n' {
-        return 1;
-    }
-    0
-}
 
 // How many line feeds stand in these bytes.
 pub fn line_feeds(before: &[u8]) -> usize
     ensures { result ≡ feeds before.now }
 {
-    let mut n = 0;
-    let mut i = 0;
-    while i < before.len() {
-        n += feed_of(before[i]);
-        i += 1;
-    }
-    n
+    before.iter().filter(|b| **b == b'\n').count()
 }
 
 // How many bytes stand behind the last line feed, one byte on.
@@ -45,10 +29,8 @@ pub fn bytes_since(before: &[u8]) -> usize
     ensures upper_bound { result ≤ length before.now }
 {
     let mut k = 0;
-    let mut i = 0;
-    while i < before.len() {
-        k = one_on(k, before[i]);
-        i += 1;
+    for b in before {
+        k = one_on(k, *b);
     }
     k
 }
@@ -76,14 +58,12 @@ pub fn line_stop(src: &[u8], first: usize) -> usize
     requires { first ≤ length src.now }
     ensures { (result ≡ line_stop src.now first) × (result ≤ length src.now) }
 {
-    let mut i = first;
-    while i < src.len() {
+    for i in first..src.len() {
         if ends_line(src, i) {
             return i;
         }
-        i += 1;
     }
-    i
+    src.len()
 }
 
 // How wide the names are, and how many numbers have a row.

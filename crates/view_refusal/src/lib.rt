@@ -9,7 +9,6 @@ ghost use Rattle.view_text.specs.Put.{Put};
 ghost use Rattle.view_refusal.specs.Meanings.{meaning, meaning_row};
 ghost use Rattle.view_refusal.specs.Refusals.{title, position_text, end_words, heading_text, placeless_text, placed, second_text, placed_text, refusal_text};
 
-use base_casts::{long, long16, wide16};
 use base_text::Class;
 use view_text::{put, put_byte, put_decimal};
 
@@ -96,7 +95,7 @@ fn put_run(out: &mut [u8], at: usize, row: &[u8], class: Class) -> usize
 fn put_name(out: &mut [u8], at: usize, number: u16) -> usize
     ensures { Put out.old out.new at result (refusal_name number) }
 {
-    let row = view_places::refusal_name(wide16(number));
+    let row = view_places::refusal_name(usize::from(number));
     put_run(out, at, &row, Class::Word)
 }
 
@@ -104,7 +103,7 @@ fn put_name(out: &mut [u8], at: usize, number: u16) -> usize
 fn put_meaning(out: &mut [u8], at: usize, number: u16) -> usize
     ensures { Put out.old out.new at result (meaning number) }
 {
-    let row = meaning_row(wide16(number));
+    let row = meaning_row(usize::from(number));
     put_run(out, at, &row, Class::Line)
 }
 
@@ -113,7 +112,7 @@ pub fn put_title(out: &mut [u8], at: usize, number: u16) -> usize
     ensures { Put out.old out.new at result (title number) }
 {
     let a = put(out, at, b"REFUSED ");
-    let b = put_decimal(out, a, long16(number));
+    let b = put_decimal(out, a, u64::from(number));
     let c = put_byte(out, b, b' ');
     let d = put_name(out, c, number);
     let e = put(out, d, b": ");
@@ -129,9 +128,9 @@ fn put_position(out: &mut [u8], at: usize, file: &[u8], src: &[u8], place: usize
     let since = view_places::bytes_since(&src[0..place]);
     let a = put(out, at, file);
     let b = put_byte(out, a, b':');
-    let c = put_decimal(out, b, long(feeds + 1));
+    let c = put_decimal(out, b, (feeds + 1) as u64);
     let d = put_byte(out, c, b':');
-    let e = put_decimal(out, d, long(since + 1));
+    let e = put_decimal(out, d, (since + 1) as u64);
     put(out, e, b": ")
 }
 

@@ -5,7 +5,6 @@ ghost use Rattle.std.specs.Prelude.{◌≡◌};
 ghost use Rattle.view_text.specs.Put.{Put};
 ghost use Rattle.view_stored.specs.Broken.{tag_text, field_text, ends_at, wrong_text, offset_text, broken_text};
 
-use base_casts::long;
 use stored_fields::{
     BLOCK, DEFINED_LABEL, END, EXTERNAL_LABEL, RELOCATION, SET_WORDS, UNSET_WORDS,
 };
@@ -95,7 +94,7 @@ fn put_offset(out: &mut [u8], at: usize, offset: usize) -> usize
     ensures { Put out.old out.new at result (offset_text offset) }
 {
     let a = put(out, at, b"    at byte ");
-    let b = view_text::put_decimal(out, a, long(offset));
+    let b = view_text::put_decimal(out, a, offset as u64);
     put(out, b, b": ")
 }
 

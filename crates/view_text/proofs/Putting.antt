@@ -6,8 +6,10 @@ use native.Mathlib.Nat.{add-zero}
 use native.Mathlib.Decide.{dec_le}
 use native.Mathlib.Omega.{arith}
 use native.Mathlib.Numerals.{add-one}
-use lib.ListN.{length, get_or, take, drop, set, length-append, length-take, length-drop, take-append-drop}
-use lib.Seq.{take_all, take-nil, take-suc, take-append-le, set_split}
+use lib.ListN.{length, take, drop, set, replicate, length-replicate, length-append, length-take, length-drop, take-append-drop}
+use lib.Seq.{drop-drop, take_all, take-nil, take-append-le, set_split}
+use borrow.Rule.Slice.PartMut.{put_mid}
+use Rattle.std.proofs.lemmas.List.{take_min, take-replicate}
 use Rattle.list_lines.specs.Appended.{written, Appended}
 use Rattle.list_lines.proofs.Appending.{appended-more}
 use Rattle.view_text.specs.Put.{fitting, Put}
@@ -97,7 +99,7 @@ put-more {b} {c} {d} {at} {m} {e} {u} {v} p q = go (dec_le at (length b))
           stop = q.stop ∙ (ap (λ (x : List ℕ). m + length x) (fitting-past c m v n) ∙ (add-zero m ∙ (s ∙ sym (ap (λ (x : List ℕ). at + length x) z ∙ add-zero at))));
         }
 
--- a byte that fits, and one that does not
+-- a byte that fits
 pub byte-in : (b : List ℕ) (at x : ℕ) → at < length b → Put b (set b at x) at (at + 1) (x ∷ [])
 unfolding fitting written
 byte-in b at x h =
@@ -107,20 +109,34 @@ byte-in b at x h =
       stop = sym (ap (λ (l : List ℕ). at + length l) f);
     }
 
-pub byte-out : (b : List ℕ) (at x : ℕ) → length b ≤ at → Put b b at at (x ∷ [])
-byte-out b at x h =
-    let f = fitting-past b at (x ∷ []) h in
+-- a text of which the first n bytes are put over as many of the buffer: those that fit
+pub part-in : {b r : List ℕ} (at n : ℕ) (t : List ℕ) → at < length b → n ≡ min (length t) (length b - at) → r ≡ take n t → Put b (put_mid at (at + n - at) b r) at (at + n) t
+unfolding fitting written
+part-in {b} {r} at n t h e p =
+    let z : at + n - at ≡ n = omega arith in
+    let m : n ≡ min (length b - at) (length t) = omega (arith, e) in
+    let f : r ≡ take (length b - at) t = p ∙ rw m (take_min (length b - at) t) in
+    let l : length (take (length b - at) t) ≡ n = length-take (length b - at) t ∙ sym m in
+    record {
+      here = rw (z, f, l) (ap (λ (x : List ℕ). take at b ++ (take (length b - at) t ++ x)) (drop-drop n at b));
+      stop = ap (λ (x : ℕ). at + x) (sym l);
+    }
+
+-- a byte put over the next n of the buffer: as many of them as fit
+pub fill-in : {b r : List ℕ} (at n g x : ℕ) → at < length b → n ≡ min g (length b - at) → r ≡ replicate (length (take (at + n - at) (drop at b))) x → Put b (put_mid at (at + n - at) b r) at (at + n) (replicate g x)
+fill-in {b} {r} at n g x h e p =
+    let l : length (take (at + n - at) (drop at b)) ≡ n = simp (length-take, length-drop) (omega (arith, e)) in
+    let q : r ≡ take n (replicate g x) = p ∙ ap (λ (m : ℕ). replicate m x) l ∙ sym (take-replicate n g x (omega (arith, e))) in
+    part-in at n (replicate g x) h (rw (length-replicate g x) e) q
+
+-- nothing of a text is put past the end
+pub none-in : (b : List ℕ) (at : ℕ) (t : List ℕ) → length b ≤ at → Put b b at at t
+none-in b at t h =
+    let f = fitting-past b at t h in
     record {
       here = sym (ap (written b at) f ∙ written_none b at);
       stop = sym (ap (λ (l : List ℕ). at + length l) f ∙ add-zero at);
     }
-
--- the loop over a text: its first byte, one more, all
-pub text-more : {b c d : List ℕ} {at m e : ℕ} (t : List ℕ) (i : ℕ) → i < length t → Put b c at m (take i t) → Put c d m e (get_or t i 0 ∷ []) → Put b d at e (take (i + 1) t)
-text-more t i h p q = put_same (sym (rw add-one (take-suc t i 0 h))) (put-more p q)
-
-pub text-all : {b c : List ℕ} {at e : ℕ} (t : List ℕ) (i : ℕ) → length t ≤ i → Put b c at e (take i t) → Put b c at e t
-text-all t i h p = put_same (take_all i t h) p
 
 -- behind a text that was cut nothing stands, whatever was to follow
 put-cut : {b c : List ℕ} {at e : ℕ} (t x y : List ℕ) → length b - at ≤ length t → Put b c at e (t ++ x) → Put b c at e (t ++ y)

@@ -1,36 +1,23 @@
 -- The texts of spaces, numbers and counts as they are put. Assumes nothing.
-use Prim.Native.Nat.{ℕ, zero, suc, ◌+◌, ◌-◌, ◌*◌, ◌/◌, ◌%◌, ◌^◌, ◌≤◌, ◌<◌}
+use Prim.Native.Nat.{ℕ, zero, suc, ◌+◌, ◌-◌, ◌/◌, ◌%◌, ◌^◌, ◌≤◌, ◌<◌, min}
 use mathlib.Core.Path.{◌≡◌, refl, sym, ◌∙◌, ap}
-use mathlib.Core.List.{List, [], ◌∷◌, ◌++◌, append-nil}
+use mathlib.Core.List.{List, [], ◌∷◌, append-nil}
 use native.Mathlib.Nat.{pow-zero, pow-suc, mod-eq_of_lt}
 use native.Mathlib.Omega.{arith}
 use borrow.Author.Tests.{lt-ltb, le-ltb, eq-eqb, ne_eqb}
-use lib.ListN.{length, get_or, take, replicate-append-replicate}
+use lib.ListN.{length, get_or, take, drop, replicate}
+use borrow.Rule.Slice.PartMut.{put_mid}
 use Rattle.io.specs.Digits.{hex_digit_ascii, last_digits, IsDigitCount}
 use Rattle.rules.specs.Base.{when◌then◌else◌}
 use Rattle.rules.specs.Listing.{hex4}
 use Rattle.view_text.specs.Put.{Put}
 use Rattle.view_text.specs.Texts.{spaces, gap, padded, digits_in, decimal, counted, hex_text, hex_text2}
-use Rattle.view_text.proofs.Putting.{put-none, put_same, put-size, put-more, put-from}
+use Rattle.view_text.proofs.Putting.{put_same, put-more, put-from, fill-in}
 
--- SPACES. i of n are put
-pub record Spaced (n : ℕ) (b c : List ℕ) (at end i : ℕ) : Type 0 where
-  pub within : i ≤ n
-  pub put : Put b c at end (spaces i)
-
-pub spaces-none : (n : ℕ) (b : List ℕ) (at : ℕ) → Spaced n b b at at 0
+-- SPACES
+pub spaces-in : {b r : List ℕ} (at n g : ℕ) → at < length b → n ≡ min g (length b - at) → r ≡ replicate (length (take (at + n - at) (drop at b))) 32 → Put b (put_mid at (at + n - at) b r) at (at + n) (spaces g)
 unfolding spaces
-spaces-none n b at = record { within = omega arith; put = put-none b at }
-
-pub spaces-more : {n : ℕ} {b c d : List ℕ} {at m e i : ℕ} → Spaced n b c at m i → i < n → Put c d m e (32 ∷ []) → Spaced n b d at e (i + 1)
-unfolding spaces
-spaces-more {i = i} s h q = record { within = omega arith; put = put_same (replicate-append-replicate i 1 32) (put-more s.put q) }
-
-pub spaces-size : {n : ℕ} {b c : List ℕ} {at e i : ℕ} → Spaced n b c at e i → length c ≡ length b
-spaces-size s = put-size s.put
-
-pub spaces-all : {n : ℕ} {b c : List ℕ} {at e i g : ℕ} → Spaced n b c at e i → n ≤ i → n ≡ g → Put b c at e (spaces g)
-spaces-all {i = i} {g = g} s h q = let z : i ≡ g = omega (arith, s.within) in put_same (ap spaces z) s.put
+spaces-in at n g h e p = fill-in at n g 32 h e p
 
 -- NUMBERS. The fewest digits are the digits
 less : (k : ℕ) → suc k - 1 ≡ k

@@ -20,48 +20,25 @@ pub fn put_byte(out: &mut [u8], at: usize, b: u8) -> usize
 pub fn put(out: &mut [u8], at: usize, text: &[u8]) -> usize
     ensures { Put out.old out.new at result text.now }
 {
-    let mut i = 0;
-    let mut end = at;
-    while i < text.len() {
-        end = put_byte(out, end, text[i]);
-        i += 1;
+    if at < out.len() {
+        let n = text.len().min(out.len() - at);
+        out[at..at + n].copy_from_slice(&text[..n]);
+        return at + n;
     }
-    end
-}
-
-// How many bytes there are from a line's start up to a place.
-fn distance(start: usize, at: usize) -> usize
-    ensures { result ≡ at - start }
-{
-    if start < at {
-        return at - start;
-    }
-    0
-}
-
-// How many spaces lead up to a column of the line that begins at `start`, one at least.
-fn gap_to(start: usize, at: usize, column: usize) -> usize
-    ensures { result ≡ gap (at - start) column }
-{
-    let used = distance(start, at);
-    if used < column {
-        return column - used;
-    }
-    1
+    at
 }
 
 // Spaces up to a column of the line that begins at `start`, one at least.
 pub fn put_spaces(out: &mut [u8], start: usize, at: usize, column: usize) -> usize
     ensures { Put out.old out.new at result (spaces (gap (at - start) column)) }
 {
-    let n = gap_to(start, at, column);
-    let mut i = 0;
-    let mut end = at;
-    while i < n {
-        end = put_byte(out, end, b' ');
-        i += 1;
+    if at < out.len() {
+        let used = at.saturating_sub(start);
+        let n = column.saturating_sub(used).max(1).min(out.len() - at);
+        out[at..at + n].fill(b' ');
+        return at + n;
     }
-    end
+    at
 }
 
 // The most decimal digits of a number.

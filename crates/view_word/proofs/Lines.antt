@@ -1,4 +1,6 @@
 -- The lines of labels and words as they are put. Assumes nothing.
+use Rattle.std.specs.declared.option.Option as O
+use Rattle.std.specs.declared.option.Option.TheVariants.{Some, None}
 use Rattle.std.proofs.Common.{◌≡◌, ℕ, ◌+◌, ◌-◌, ◌%◌, ◌<◌, ◌≤◌, List, [], ◌∷◌, ◌++◌, refl, append_assoc, arith, le-ltb, lt-ltb, le-leb}
 use mathlib.Core.Option.{Option, some}
 use borrow.Author.Tests.{lt-leb}
@@ -12,8 +14,6 @@ use Rattle.view_text.proofs.Putting.{put-none, put_same, put-more, put-from}
 use Rattle.view_text.proofs.Texts.{pad-put}
 use Rattle.view_instruction.specs.Lines.{line_text, line_reach}
 use Rattle.view_instruction.specs.Spelled.{reached}
-use Rattle.view_instruction.specs.declared.Reach.{Reach}
-use Rattle.view_instruction.specs.declared.Reach.TheVariants as RV
 use Rattle.view_word.specs.Labels.{label_at, name_text, label_line}
 use Rattle.view_word.specs.Words.{front, label_behind, reached_note, char_note, note_by, beside, noted, set_line, unset_line, waiting_line}
 
@@ -59,13 +59,13 @@ module _ (ls ns : List ℕ) (n : ℕ) {b : List ℕ} {at : ℕ} where
   reached-put target start p1 p2 p3 q p4 = put_same (rw (q, append_assoc, append_assoc) refl) (put-more (put-more (put-more p1 p2) p3) p4)
 
   pub note-offset :
-      (start a w d t : ℕ) {e : ℕ} {c : List ℕ} {r : Reach} → r ≡ RV.Offset d → t ≡ (a + 1 + d) % 65536 → Put b c at e (beside (at - start) (some (reached_note ls ns n t))) →
+      (start a w d t : ℕ) {e : ℕ} {c : List ℕ} {r : O.Option ℕ} → r ≡ Some d → t ≡ (a + 1 + d) % 65536 → Put b c at e (beside (at - start) (some (reached_note ls ns n t))) →
       Put b c at e (beside (at - start) (note_by ls ns n a w (reached r)))
   unfolding note_by reached
   note-offset start a w d t q z p = rw (q) (put_same (rw z refl) p)
 
   pub note-char :
-      (start a w : ℕ) {e : ℕ} {c : List ℕ} {r : Reach} → r ≡ RV.Nothing → Put b c at e (beside (at - start) (char_note w)) → Put b c at e (beside (at - start) (note_by ls ns n a w (reached r)))
+      (start a w : ℕ) {e : ℕ} {c : List ℕ} {r : O.Option ℕ} → r ≡ None → Put b c at e (beside (at - start) (char_note w)) → Put b c at e (beside (at - start) (note_by ls ns n a w (reached r)))
   unfolding note_by reached
   note-char start a w q p = rw (q) p
 

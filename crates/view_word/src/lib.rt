@@ -9,9 +9,7 @@ ghost use Rattle.view_word.specs.Labels.{defined_row, stands_at, label_at, later
 ghost use Rattle.view_word.specs.Words.{front, label_behind, reached_note, char_note, note_by, beside, set_line, unset_line, waiting_line};
 
 use base_capacities::{DEFINED, LABEL_ADDRESS, LABEL_CELLS, LABEL_FLAG, RELOCATION_CELLS};
-use base_casts::word32;
 use std::num::wrapping_add_u16;
-use view_instruction::Reach;
 use view_text::{put, put_byte, put_hex, put_spaces};
 
 // A relocation's row begins with its address.
@@ -31,31 +29,26 @@ const FIRST_SHOWN: u16 = b' ' as u16;
 
 const PAST_SHOWN: u16 = 127;
 
+// Cell i of row k, of rows of so many cells; 0 past the end.
+fn cell(rows: &[u32], cells: usize, k: usize, i: usize) -> u32
+    ensures { result ≡ slice_index rows.now (k * cells + i) }
+{
+    rows.get(k.saturating_mul(cells).saturating_add(i))
+        .copied()
+        .unwrap_or(0)
+}
+
 // Cell i of label row k, and of relocation k; 0 past the end.
 pub fn label_cell(labels: &[u32], k: usize, i: usize) -> u32
     ensures { result ≡ slice_index labels.now (k * 4 + i) }
 {
-    if labels.len() / LABEL_CELLS < k {
-        return 0;
-    }
-    let row = k * LABEL_CELLS;
-    if i < labels.len() - row {
-        return labels[row + i];
-    }
-    0
+    cell(labels, LABEL_CELLS, k, i)
 }
 
 pub fn relocation_cell(relocations: &[u32], k: usize, i: usize) -> u32
     ensures { result ≡ slice_index relocations.now (k * 2 + i) }
 {
-    if relocations.len() / RELOCATION_CELLS < k {
-        return 0;
-    }
-    let row = k * RELOCATION_CELLS;
-    if i < relocations.len() - row {
-        return relocations[row + i];
-    }
-    0
+    cell(relocations, RELOCATION_CELLS, k, i)
 }
 
 // Whether label row k is defined.
@@ -69,19 +62,17 @@ pub fn is_defined(labels: &[u32], k: usize) -> bool
 fn stands_at(labels: &[u32], k: usize, address: u16) -> bool
     ensures { result ≡ stands_at labels.now address k }
 {
-    is_defined(labels, k) & (label_cell(labels, k, LABEL_ADDRESS) == word32(address))
+    is_defined(labels, k) & (label_cell(labels, k, LABEL_ADDRESS) == u32::from(address))
 }
 
 // The first of n label rows that is defined at an address; n where there is none.
 fn label_row(labels: &[u32], n: usize, address: u16) -> usize
     ensures { result ≡ label_at labels.now n address }
 {
-    let mut row = 0;
-    while row < n {
+    for row in 0..n {
         if stands_at(labels, row, address) {
             return row;
         }
-        row += 1;
     }
     n
 }
@@ -101,10 +92,8 @@ pub fn last_row(labels: &[u32], n: usize, address: u16) -> usize
     ensures { result ≡ last_at labels.now n address n }
 {
     let mut last = n;
-    let mut row = 0;
-    while row < n {
+    for row in 0..n {
         last = later_row(labels, row, address, last);
-        row += 1;
     }
     last
 }
@@ -113,19 +102,17 @@ pub fn last_row(labels: &[u32], n: usize, address: u16) -> usize
 fn relocates_at(relocations: &[u32], k: usize, address: u16) -> bool
     ensures { result ≡ relocates relocations.now address k }
 {
-    relocation_cell(relocations, k, RELOCATION_ADDRESS) == word32(address)
+    relocation_cell(relocations, k, RELOCATION_ADDRESS) == u32::from(address)
 }
 
 // The first of n relocations at an address; n where there is none.
 pub fn relocation_row(relocations: &[u32], n: usize, address: u16) -> usize
     ensures { result ≡ reloc_at relocations.now n address }
 {
-    let mut row = 0;
-    while row < n {
+    for row in 0..n {
         if relocates_at(relocations, row, address) {
             return row;
         }
-        row += 1;
     }
     n
 }
@@ -184,10 +171,8 @@ pub fn put_labels(
     ensures { Put out.old out.new at result (own_lines labels.now names.now address shown n) }
 {
     let mut end = at;
-    let mut row = 0;
-    while row < n {
+    for row in 0..n {
         end = put_own(out, end, labels, names, address, shown, row);
-        row += 1;
     }
     end
 }
@@ -214,7 +199,7 @@ fn put_char(out: &mut [u8], start: usize, at: usize, word: u16) -> usize
     if word < PAST_SHOWN {
         let a = put_spaces(out, start, at, NOTE_COLUMN);
         let b = put(out, a, b"; '");
-        let c = put_byte(out, b, base_casts::byte(word));
+        let c = put_byte(out, b, word as u8);
         return put_byte(out, c, b'\'');
     }
     at
@@ -266,13 +251,13 @@ fn put_note(
     n: usize,
     address: u16,
     word: u16,
-    reach: Reach,
+    reach: Option<u16>,
 ) -> usize
     ensures { Put out.old out.new at result (beside (at - start) (note_by labels.now names.now n address word (reached reach))) }
 {
     match reach {
-        Reach::Offset(d) => { put_reached(out, start, at, labels, names, n, target_of(address, d)) }
-        Reach::Nothing => put_char(out, start, at, word),
+        Some(d) => { put_reached(out, start, at, labels, names, n, target_of(address, d)) }
+        None => put_char(out, start, at, word),
     }
 }
 

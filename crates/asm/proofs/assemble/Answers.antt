@@ -7,10 +7,10 @@ pub first_half-requires : goal.first_half-requires
 first_half-requires c = (symbols-long, relocations-long)
 
 pub second_half-requires : goal.second_half-requires
-second_half-requires c = (call-begun _ _ _ _ _ _ c.is_short-small.ensures c.lent_words-room.ensures _ c.first_half.ensures _ c.in-Went.is, call_fits _ _ _ _ _ _ c.is_short-small.ensures c.lent_words-room.ensures _ c.first_half.ensures _ c.in-Went.is, call_long _ _ _ _ _ _ c.is_short-small.ensures c.lent_words-room.ensures _ c.first_half.ensures _ c.in-Went.is)
+second_half-requires c = (call-begun _ _ _ _ _ _ c.is_short-small.ensures c.lent_words-room.ensures _ c.first_half.ensures _ c.in-Ok.is, call_fits _ _ _ _ _ _ c.is_short-small.ensures c.lent_words-room.ensures _ c.first_half.ensures _ c.in-Ok.is, call_long _ _ _ _ _ _ c.is_short-small.ensures c.lent_words-room.ensures _ c.first_half.ensures _ c.in-Ok.is)
 
-pub returns-in-Went : goal.returns-in-Went
-returns-in-Went c = call-went _ _ _ _ _ _ c.is_short-small.ensures c.lent_words-room.ensures _ c.first_half.ensures _ c.in-Went.is _ _ c.second_half.ensures
+pub returns-in-Ok : goal.returns-in-Ok
+returns-in-Ok c = call-went _ _ _ _ _ _ c.is_short-small.ensures c.lent_words-room.ensures _ c.first_half.ensures _ c.in-Ok.is _ _ c.second_half.ensures
 
-pub returns-in-Refused : goal.returns-in-Refused
-returns-in-Refused c = call-stopped _ _ _ _ _ _ c.is_short-small.ensures c.lent_words-room.ensures _ c.first_half.ensures _ c.in-Refused.is _ _ (leaves-refused _ _ _ _ _ _ _ c.clear.ensures _ c.refusal.ensures)
+pub returns-in-Err : goal.returns-in-Err
+returns-in-Err c = call-stopped _ _ _ _ _ _ c.is_short-small.ensures c.lent_words-room.ensures _ c.first_half.ensures _ c.in-Err.is _ _ (leaves-refused _ _ _ _ _ _ _ c.clear.ensures _ c.refusal.ensures)

@@ -10,8 +10,8 @@ returns-then-src-gt-SOURCE_BYTES c = search (rules, tabled-long)
 pub check_bytes-requires : goal.check_bytes-requires
 check_bytes-requires c = (search rules, search (rules, went-read))
 
-pub returns-in-Went : goal.returns-in-Went
-returns-in-Went c = search (rules, tabled)
+pub returns-in-Ok : goal.returns-in-Ok
+returns-in-Ok c = search (rules, tabled)
 
-pub returns-in-Refused : goal.returns-in-Refused
-returns-in-Refused c = search (rules, tabled)
+pub returns-in-Err : goal.returns-in-Err
+returns-in-Err c = search (rules, tabled)

@@ -9,8 +9,8 @@ write_blocks-answer-requires c = roomy _ _ _ _ c.requires.0 _ _ _ _ _ _ c.requir
 pub lay_tables-requires : goal.lay_tables-requires
 lay_tables-requires c = rooms _ _ _ _ c.requires.0 _ _ _ _ _ _ c.requires.2
 
-pub returns-in-Went : goal.returns-in-Went
-returns-in-Went c = made-whole _ _ _ _ c.requires.0 _ _ _ _ _ _ c.requires.2 _ _ _ (search rules) (search rules) (search rules) _ c.write_blocks-answer.ensures _ c.in-Went.is _ _ _ c.lay_tables.ensures.laid_labels c.lay_tables.ensures.relocations_after
+pub returns-in-Ok : goal.returns-in-Ok
+returns-in-Ok c = made-whole _ _ _ _ c.requires.0 _ _ _ _ _ _ c.requires.2 _ _ _ (search rules) (search rules) (search rules) _ c.write_blocks-answer.ensures _ c.in-Ok.is _ _ _ c.lay_tables.ensures.laid_labels c.lay_tables.ensures.relocations_after
 
-pub returns-in-Refused : goal.returns-in-Refused
-returns-in-Refused c = made_none _ _ _ _ c.requires.0 _ _ _ _ _ _ c.requires.2 _ _ _ (search rules) (search rules) (search rules) _ c.write_blocks-answer.ensures _ c.in-Refused.is _ c.clear.ensures
+pub returns-in-Err : goal.returns-in-Err
+returns-in-Err c = made_none _ _ _ _ c.requires.0 _ _ _ _ _ _ c.requires.2 _ _ _ (search rules) (search rules) (search rules) _ c.write_blocks-answer.ensures _ c.in-Err.is _ c.clear.ensures

@@ -1,5 +1,4 @@
 -- `base_buffers::put_name` copies a slice into another. Assumes nothing.
-use Prim.Native.Nat.{◌-◌}
 use borrow.Author.Rules.{rules}
 use Rattle.base_buffers.proofs.Pasted.{pasted-none, pasted-eight, pasted-rest}
 use Rattle.base_buffers.proofs.put_name.Goals as goal

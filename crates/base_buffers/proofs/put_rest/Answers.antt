@@ -1,5 +1,4 @@
 -- `base_buffers::put_rest` copies what is left of a slice. Assumes nothing.
-use Prim.Native.Nat.{◌-◌}
 use borrow.Author.Rules.{rules}
 use Rattle.base_buffers.proofs.Pasted.{resting-none, resting-more, resting-all}
 use Rattle.base_buffers.proofs.put_rest.Goals as goal

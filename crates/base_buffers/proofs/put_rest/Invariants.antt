@@ -1,11 +1,6 @@
 -- `base_buffers::put_rest` copies what is left of a slice. Assumes nothing.
-use Prim.Native.Nat.{◌-◌}
-use lib.ListN.{length}
 use Rattle.base_buffers.proofs.Pasted.{Resting}
 use Rattle.base_buffers.proofs.put_rest.Given as goal
 
 abbrev pub invariant-loop-k : goal.invariant-loop-k
 invariant-loop-k l = Resting l.initial.dst l.at l.src l.dst l.i l.k
-
-abbrev pub decreases-loop-k : goal.decreases-loop-k
-decreases-loop-k l = length l.src - l.k

@@ -5,8 +5,5 @@ use Rattle.base_text.specs.declared.Class.TheVariants.{Ascii}
 use Rattle.base_runs.proofs.Steps.{Looked}
 use Rattle.base_runs.proofs.all_ascii.Given as goal
 
-abbrev pub invariant-loop-i : goal.invariant-loop-i
-invariant-loop-i l = Looked Ascii l.s l.all l.i
-
-abbrev pub decreases-loop-i : goal.decreases-loop-i
-decreases-loop-i l = length l.s - l.i
+abbrev pub invariant-loop-b : goal.invariant-loop-b
+invariant-loop-b l = Looked Ascii l.s l.all l.b-index

@@ -6,8 +6,5 @@ use Rattle.base_text.specs.declared.Class.TheVariants.{Plain}
 use Rattle.base_runs.proofs.Steps.{Looked}
 use Rattle.base_runs.proofs.all_plain.Given as goal
 
-abbrev pub invariant-loop-i : goal.invariant-loop-i
-invariant-loop-i l = Looked Plain l.s (l.no_quote && l.no_backslash && l.no_feed && l.no_return) l.i
-
-abbrev pub decreases-loop-i : goal.decreases-loop-i
-decreases-loop-i l = length l.s - l.i
+abbrev pub invariant-loop-b : goal.invariant-loop-b
+invariant-loop-b l = Looked Plain l.s (l.no_quote && l.no_backslash && l.no_feed && l.no_return) l.b-index

@@ -1,7 +1,5 @@
 -- `base_text::compare_from` meets its contract. Assumes nothing.
-use Prim.Native.Nat.{◌-◌}
-use mathlib.Core.Path.{◌≡◌}
-use lib.ListN.{length}
+use Rattle.std.proofs.Common.{◌≡◌}
 use Rattle.base_text.specs.Runs.{from}
 use Rattle.base_text.specs.Names.{ordered}
 use Rattle.base_text.proofs.NameLaws.{map_from}
@@ -9,6 +7,3 @@ use Rattle.base_text.proofs.compare_from.Given as goal
 
 abbrev pub invariant-loop-i : goal.invariant-loop-i
 invariant-loop-i l = ordered (map_from (λ x. x) l.a l.i) (map_from (λ x. x) l.b l.i) ≡ ordered (from l.a l.at) (from l.b l.at)
-
-abbrev pub decreases-loop-i : goal.decreases-loop-i
-decreases-loop-i l = length l.a - l.i

@@ -1,13 +1,10 @@
 -- `base_text::compare_half` meets its contract: a law for each return. Assumes nothing.
-use native.Mathlib.Omega.{arith}
-use Rattle.base_text.proofs.KeyLaws.{rest-less, rest_more, rest-next, four-left}
+use Rattle.std.proofs.Common.{arith, ◌∙◌}
+use Rattle.base_text.proofs.KeyLaws.{rest_met, rest-next, four-left}
 use Rattle.base_text.proofs.compare_half.Goals as goal
 
 pub returns-then-x-y : goal.returns-then-x-y
-returns-then-x-y c = rest-less _ _ _ _ (four-left _ _ (λ k. omega (arith, c.type_inv.a k)) (λ k. omega (arith, c.type_inv.b k)) _ _ c.requires.1 c.requires.2 c.if-shared-at-lt-HALF_BYTES.false c.four_at-x.ensures.0 c.four_at-y.ensures.0) c.if-x-y.true
-
-pub returns-then-y-x : goal.returns-then-y-x
-returns-then-y-x c = rest_more _ _ _ _ (four-left _ _ (λ k. omega (arith, c.type_inv.a k)) (λ k. omega (arith, c.type_inv.b k)) _ _ c.requires.1 c.requires.2 c.if-shared-at-lt-HALF_BYTES.false c.four_at-x.ensures.0 c.four_at-y.ensures.0) c.if-y-x.true
+returns-then-x-y c = c.cmp.ensures ∙ rest_met _ _ _ _ (four-left _ _ (λ k. omega (arith, c.type_inv.a k)) (λ k. omega (arith, c.type_inv.b k)) _ _ c.requires.1 c.requires.2 c.if-shared-at-lt-HALF_BYTES.false c.four_at-x.ensures.0 c.four_at-y.ensures.0) c.if-x-y.true
 
 pub returns : goal.returns
-returns c = rest-next _ _ _ _ (four-left _ _ (λ k. omega (arith, c.type_inv.a k)) (λ k. omega (arith, c.type_inv.b k)) _ _ c.requires.1 c.requires.2 c.if-shared-at-lt-HALF_BYTES.false c.four_at-x.ensures.0 c.four_at-y.ensures.0) c.if-x-y.false c.if-y-x.false c.compare_quarter-2.ensures
+returns c = rest-next _ _ _ _ (four-left _ _ (λ k. omega (arith, c.type_inv.a k)) (λ k. omega (arith, c.type_inv.b k)) _ _ c.requires.1 c.requires.2 c.if-shared-at-lt-HALF_BYTES.false c.four_at-x.ensures.0 c.four_at-y.ensures.0) c.if-x-y.false c.compare_quarter-2.ensures

@@ -1,6 +1,6 @@
 -- `base_text::four_at` meets its contract. Assumes nothing.
 use Prim.Native.Nat.{◌+◌}
-use native.Mathlib.Omega.{arith}
+use Rattle.std.proofs.Common.{arith}
 use Rattle.base_text.proofs.KeyLaws.{four_is}
 use Rattle.base_text.proofs.four_at.Goals as goal
 
@@ -15,6 +15,6 @@ overflow_add-result-2 c = omega (arith, c.shared_slice_known-1.given (c.args.at 
 
 pub returns : goal.returns
 returns c = (
-  four_is _ _ c.two_at.ensures.0 c.long8.ensures c.long8-2.ensures,
+  four_is _ _ c.two_at.ensures.0 c.from.ensures c.from-2.ensures,
   omega (arith, c.shared_slice_known-1.given (c.args.at + 2), c.shared_slice_known-1.given (c.args.at + 3)),
 )

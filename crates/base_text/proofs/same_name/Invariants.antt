@@ -1,8 +1,5 @@
 -- `base_text::same_name` meets its contract. Assumes nothing.
-use Prim.Native.Nat.{◌-◌}
-use mathlib.Core.Path.{◌≡◌}
-use mathlib.Core.List.{map}
-use lib.ListN.{length}
+use Rattle.std.proofs.Common.{◌≡◌, map}
 use Rattle.rules.specs.Base.{same}
 use Rattle.rules.specs.Tokens.{upper}
 use Rattle.base_text.proofs.NameLaws.{map_from}
@@ -10,6 +7,3 @@ use Rattle.base_text.proofs.same_name.Given as goal
 
 abbrev pub invariant-loop-i : goal.invariant-loop-i
 invariant-loop-i l = same (map_from upper l.a l.i) (map_from upper l.b l.i) ≡ same (map upper l.a) (map upper l.b)
-
-abbrev pub decreases-loop-i : goal.decreases-loop-i
-decreases-loop-i l = length l.a - l.i

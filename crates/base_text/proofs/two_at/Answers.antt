@@ -1,6 +1,5 @@
 -- `base_text::two_at` meets its contract. Assumes nothing.
-use Prim.Native.Nat.{◌+◌}
-use native.Mathlib.Omega.{arith}
+use Rattle.std.proofs.Common.{◌+◌, arith}
 use Rattle.base_text.proofs.KeyLaws.{two_is}
 use Rattle.base_text.proofs.two_at.Goals as goal
 
@@ -12,6 +11,6 @@ overflow_add-result c = omega (arith, c.shared_slice_known-1.given c.args.at, c.
 
 pub returns : goal.returns
 returns c = (
-  two_is _ _ c.long8.ensures c.long8-2.ensures,
+  two_is _ _ c.from.ensures c.from-2.ensures,
   omega (arith, c.shared_slice_known-1.given c.args.at, c.shared_slice_known-1.given (c.args.at + 1)),
 )

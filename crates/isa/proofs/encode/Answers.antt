@@ -4,7 +4,7 @@ use native.Mathlib.Omega.{arith}
 use Rattle.rules.specs.Base.{when◌then◌else◌}
 use Rattle.rules.specs.Words.{signed, instructions, find, bits, joined, made, word}
 use Rattle.isa.specs.Instructions.{meant}
-use Rattle.isa_fields.specs.declared.Encoded.TheVariants.{Bits}
+use Rattle.std.specs.declared.option.Option.TheVariants.{Some, None}
 use Rattle.isa.specs.declared.AsmInstr.TheVariants.{ADD, AND, JMP, JSR, JSRR, LD, LDI, LDR, LEA, RET, RTI, ST, STI, STR, NOP, GETC, OUT, PUTC, PUTS, IN, PUTSP, HALT}
 use Rattle.isa.proofs.Parts.{small, small-last, arm-last, arm-six, arm-nine, arm-branch, arm_low, arm-base, arm-not, arm-trap, fixed}
 use Rattle.isa.proofs.encode.Goals as goal
@@ -71,7 +71,7 @@ returns-in-BR c = arm-branch 0 _ _ _ _ _ c.in-BR.is c.low9.ensures c.join_bits-i
 
 pub returns-in-JMP : goal.returns-in-JMP
 unfolding word made find instructions joined bits meant when◌then◌else◌
-returns-in-JMP c = arm-base 0xc000 _ _ (Bits 0) JMP (λ b. refl) _ c.in-JMP.is c.join_bits-in-JMP.ensures
+returns-in-JMP c = arm-base 0xc000 _ _ (Some 0) JMP (λ b. refl) _ c.in-JMP.is c.join_bits-in-JMP.ensures
 
 pub returns-in-JSR : goal.returns-in-JSR
 unfolding word made find instructions joined bits meant when◌then◌else◌
@@ -79,7 +79,7 @@ returns-in-JSR c = arm_low 0x4800 _ _ _ (signed 11) JSR (λ o. refl) _ c.in-JSR.
 
 pub returns-in-JSRR : goal.returns-in-JSRR
 unfolding word made find instructions joined bits meant when◌then◌else◌
-returns-in-JSRR c = arm-base 0x4000 _ _ (Bits 0) JSRR (λ b. refl) _ c.in-JSRR.is c.join_bits-in-JSRR.ensures
+returns-in-JSRR c = arm-base 0x4000 _ _ (Some 0) JSRR (λ b. refl) _ c.in-JSRR.is c.join_bits-in-JSRR.ensures
 
 pub returns-in-LD : goal.returns-in-LD
 unfolding word made find instructions joined bits meant when◌then◌else◌

@@ -9,4 +9,4 @@ pub returns-then-loaded-eq0 : goal.returns-then-loaded-eq0
 returns-then-loaded-eq0 c = second-told _ (λ i. (c.type_inv.second i).fits) _ _ c.load-loaded.ensures c.if-loaded-eq0.true _ c.counts_of-c.ensures _ _ _ _ _ _ c.link_objects.ensures
 
 pub returns : goal.returns
-returns c = second-refused _ (λ i. (c.type_inv.second i).fits) _ _ c.load-loaded.ensures c.if-loaded-eq0.false _ _ _ _ c.zero_u8.ensures c.answer_of.ensures _
+returns c = second-refused _ (λ i. (c.type_inv.second i).fits) _ _ c.load-loaded.ensures c.if-loaded-eq0.false _ _ _ _ c.clear.ensures c.answer_of.ensures _

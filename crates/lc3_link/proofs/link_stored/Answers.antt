@@ -9,4 +9,4 @@ pub returns-then-answer-eq0 : goal.returns-then-answer-eq0
 returns-then-answer-eq0 c = part-told _ _ (λ i. (c.slice_known-1.given i).fits) _ c.part_of.ensures _ _ c.load-answer.ensures c.if-answer-eq0.true _ c.counts_of-c.ensures _ _ _ _ _ _ c.link_second.ensures
 
 pub returns : goal.returns
-returns c = part-refused _ _ (λ i. (c.slice_known-1.given i).fits) _ c.part_of.ensures _ _ c.load-answer.ensures c.if-answer-eq0.false _ _ _ _ c.zero_u8.ensures c.answer_of.ensures _
+returns c = part-refused _ _ (λ i. (c.slice_known-1.given i).fits) _ c.part_of.ensures _ _ c.load-answer.ensures c.if-answer-eq0.false _ _ _ _ c.clear.ensures c.answer_of.ensures _

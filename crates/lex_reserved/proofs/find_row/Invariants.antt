@@ -8,6 +8,3 @@ use Rattle.lex_reserved.proofs.find_row.Given as goal
 
 abbrev pub invariant-loop-i : goal.invariant-loop-i
 invariant-loop-i l = find_in (l.last - l.i) l.i (map upper l.s) ≡ find_in (l.last - l.first) l.first (map upper l.s)
-
-abbrev pub decreases-loop-i : goal.decreases-loop-i
-decreases-loop-i l = l.last - l.i

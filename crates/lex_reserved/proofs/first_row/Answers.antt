@@ -7,4 +7,4 @@ use Rattle.lex_reserved.proofs.first_row.Goals as goal
 
 pub returns : goal.returns
 unfolding starts first_row
-returns c = c.wide8.ensures ∙ ap (λ (k : ℕ). get_or starts k 0) c.wide8-k.ensures
+returns c = c.from.ensures ∙ ap (λ (k : ℕ). get_or starts k 0) c.from-k.ensures

@@ -10,6 +10,3 @@ use Rattle.lex_reserved.proofs.row_is.Given as goal
 
 abbrev pub invariant-loop-j : goal.invariant-loop-j
 invariant-loop-j l = (same_from l.i l.s l.j ≡ same (map upper l.s) (name_of (row l.i))) × (l.n ≤ 5)
-
-abbrev pub decreases-loop-j : goal.decreases-loop-j
-decreases-loop-j l = l.n - l.j

@@ -10,12 +10,6 @@ use Rattle.lex_token.proofs.Back.{by-sort, value-small, last-sort}
 use borrow.Author.Rules.{rules}
 use Rattle.lex_token.proofs.next_of.Goals as goal
 
-pub byte-requires : goal.byte-requires
-byte-requires c = value-small c.args.t c.requires 2 c.in-2.is (omega arith)
-
-pub byte-requires-in-5 : goal.byte-requires-in-5
-byte-requires-in-5 c = value-small c.args.t c.requires 5 c.in-5.is (omega arith)
-
 pub returns-in-0 : goal.returns-in-0
 returns-in-0 c = c.took.ensures ∙ by-sort c.args.t 0 c.in-0.is
 
@@ -23,7 +17,7 @@ pub returns-in-1 : goal.returns-in-1
 returns-in-1 c = c.took-in-1.ensures ∙ by-sort c.args.t 1 c.in-1.is
 
 pub returns-in-2 : goal.returns-in-2
-returns-in-2 c = c.took-in-2.ensures ∙ ap (λ (b : ℕ). Took (Reg b) c.args.t.start c.args.t.end) c.byte.ensures ∙ by-sort c.args.t 2 c.in-2.is
+returns-in-2 c = c.took-in-2.ensures ∙ by-sort c.args.t 2 c.in-2.is
 
 pub returns-in-3 : goal.returns-in-3
 returns-in-3 c = c.took-in-3.ensures ∙ by-sort c.args.t 3 c.in-3.is
@@ -32,7 +26,7 @@ pub returns-in-4 : goal.returns-in-4
 returns-in-4 c = c.took-in-4.ensures ∙ by-sort c.args.t 4 c.in-4.is
 
 pub returns-in-5 : goal.returns-in-5
-returns-in-5 c = c.took-in-5.ensures ∙ ap (λ (b : ℕ). Took (tok.Ident (Reserved b)) c.args.t.start c.args.t.end) c.byte-in-5.ensures ∙ by-sort c.args.t 5 c.in-5.is
+returns-in-5 c = c.took-in-5.ensures ∙ by-sort c.args.t 5 c.in-5.is
 
 pub returns-in-6 : goal.returns-in-6
 returns-in-6 c = c.took-in-6.ensures ∙ by-sort c.args.t 6 c.in-6.is

@@ -10,8 +10,8 @@ loop-i-init c = search (rules, parts_none)
 pub size_at-n-requires : goal.size_at-n-requires
 size_at-n-requires c = search (rules, part-row)
 
-pub copy_u8-requires : goal.copy_u8-requires
-copy_u8-requires c = (search (rules, part_held), search (rules, part_room))
+pub copy-requires : goal.copy-requires
+copy-requires c = (search (rules, part_held), search (rules, part_room))
 
 pub loop-i-preserved-then-first_next : goal.loop-i-preserved-then-first_next
 loop-i-preserved-then-first_next c = search (rules, parts_first)
@@ -19,8 +19,8 @@ loop-i-preserved-then-first_next c = search (rules, parts_first)
 pub size_at-n-requires-in-loop-i : goal.size_at-n-requires-in-loop-i
 size_at-n-requires-in-loop-i c = search (rules, other-part-row)
 
-pub copy_u8-requires-in-loop-i : goal.copy_u8-requires-in-loop-i
-copy_u8-requires-in-loop-i c = (search (rules, other-part-held), search (rules, other-part-room))
+pub copy-requires-in-loop-i : goal.copy-requires-in-loop-i
+copy-requires-in-loop-i c = (search (rules, other-part-held), search (rules, other-part-room))
 
 pub loop-i-preserved : goal.loop-i-preserved
 loop-i-preserved c = search (rules, parts-second)

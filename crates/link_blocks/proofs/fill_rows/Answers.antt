@@ -7,14 +7,14 @@ use Rattle.link_blocks.proofs.fill_rows.Goals as goal
 pub loop-i-init : goal.loop-i-init
 loop-i-init c = search (rules, rows_none)
 
-pub copy_u16-requires : goal.copy_u16-requires
-copy_u16-requires c = (search (rules, row-held), search (rules, row_room))
+pub copy-requires : goal.copy-requires
+copy-requires c = (search (rules, row-held), search (rules, row_room))
 
 pub loop-i-preserved-then-first_next : goal.loop-i-preserved-then-first_next
 loop-i-preserved-then-first_next c = search (rules, rows-first)
 
-pub copy_u16-requires-in-loop-i : goal.copy_u16-requires-in-loop-i
-copy_u16-requires-in-loop-i c = (search (rules, other_held), search (rules, other-room))
+pub copy-requires-in-loop-i : goal.copy-requires-in-loop-i
+copy-requires-in-loop-i c = (search (rules, other_held), search (rules, other-room))
 
 pub loop-i-preserved : goal.loop-i-preserved
 loop-i-preserved c = search (rules, rows-second)

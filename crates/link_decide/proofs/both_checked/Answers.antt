@@ -6,17 +6,17 @@ use Rattle.link_decide.proofs.both_checked.Goals as goal
 pub returns-then-short : goal.returns-then-short
 returns-then-short c = search (rules, given-short)
 
-pub returns-in-ShortBuffer : goal.returns-in-ShortBuffer
-returns-in-ShortBuffer c = search (rules, given-first)
+pub returns-in-Err-ShortBuffer : goal.returns-in-Err-ShortBuffer
+returns-in-Err-ShortBuffer c = search (rules, given-first)
 
-pub returns-in-Object : goal.returns-in-Object
-returns-in-Object c = search (rules, given-second)
+pub returns-in-Ok : goal.returns-in-Ok
+returns-in-Ok c = search (rules, given-second)
 
-pub returns-in-ShortBuffer-second : goal.returns-in-ShortBuffer-second
-returns-in-ShortBuffer-second c = search (rules, given-late)
+pub returns-in-Err-ShortBuffer-second : goal.returns-in-Err-ShortBuffer-second
+returns-in-Err-ShortBuffer-second c = search (rules, given-late)
 
-pub returns-in-Object-second : goal.returns-in-Object-second
-returns-in-Object-second c = search (rules, given-bad)
+pub returns-in-Ok-second : goal.returns-in-Ok-second
+returns-in-Ok-second c = search (rules, given-bad)
 
-pub returns-in-BadObject-second : goal.returns-in-BadObject-second
-returns-in-BadObject-second c = search (rules, given_both)
+pub returns-in-Err-BadObject-second : goal.returns-in-Err-BadObject-second
+returns-in-Err-BadObject-second c = search (rules, given_both)

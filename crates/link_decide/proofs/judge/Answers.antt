@@ -8,15 +8,15 @@ pub returns-then-blocks_meet : goal.returns-then-blocks_meet
 returns-then-blocks_meet c = judged-meets _ _ _ _ _ _ _ _ _ _ _ _ _ _ _ c.blocks_meet.ensures c.if-blocks_meet.true c.placeless.ensures
 
 pub overflow_add-result : goal.overflow_add-result
-overflow_add-result c = let low = row_fits c.requires.labels c.match_labels-matched.ensures c.in-Differs.is in search rules
+overflow_add-result c = let low = row_fits c.requires.labels c.match_labels-matched.ensures c.in-Err.is in search rules
 
 pub tally-c-requires : goal.tally-c-requires
 tally-c-requires c = (still-carried c.requires.relocs1 c.match_labels-matched.auto.notes1, still-carried c.requires.relocs2 c.match_labels-matched.auto.notes2, c.requires.few)
 
-pub returns-in-Differs : goal.returns-in-Differs
-returns-in-Differs c = judged-differs _ _ _ _ _ _ _ _ _ _ _ _ _ _ _ c.blocks_meet.ensures c.if-blocks_meet.false _ c.match_labels-matched.ensures _ c.in-Differs.is refl
+pub returns-in-Err : goal.returns-in-Err
+returns-in-Err c = judged-differs _ _ _ _ _ _ _ _ _ _ _ _ _ _ _ c.blocks_meet.ensures c.if-blocks_meet.false _ c.match_labels-matched.ensures _ c.in-Err.is refl
 
-pub returns-in-Rows : goal.returns-in-Rows
-returns-in-Rows c =
-    judged-weighs _ _ _ _ _ _ _ _ _ _ _ _ _ _ _ c.blocks_meet.ensures c.if-blocks_meet.false _ c.match_labels-matched.ensures _ c.in-Rows.is
+pub returns-in-Ok : goal.returns-in-Ok
+returns-in-Ok c =
+    judged-weighs _ _ _ _ _ _ _ _ _ _ _ _ _ _ _ c.blocks_meet.ensures c.if-blocks_meet.false _ c.match_labels-matched.ensures _ c.in-Ok.is
     _ c.weigh.ensures c.tally-c.ensures

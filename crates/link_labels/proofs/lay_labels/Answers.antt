@@ -5,7 +5,7 @@ use Rattle.link_labels.proofs.Laying.{ready-after}
 use Rattle.link_labels.proofs.lay_labels.Goals as goal
 
 pub lay_rows-requires : goal.lay_rows-requires
-lay_rows-requires c = (ready-after c.requires c.zero_u32.ensures c.zero_u8.ensures, blank_of (length c.args.labels.now) c.zero_u32.ensures, blank_of (length c.args.names.now) c.zero_u8.ensures)
+lay_rows-requires c = (ready-after c.requires c.clear.ensures c.clear-2.ensures, blank_of (length c.args.labels.now) c.clear.ensures, blank_of (length c.args.names.now) c.clear-2.ensures)
 
 pub returns : goal.returns
-returns c = laid-after c.lay_rows.ensures c.zero_u32.ensures c.zero_u8.ensures
+returns c = laid-after c.lay_rows.ensures c.clear.ensures c.clear-2.ensures

@@ -32,17 +32,17 @@ loop-notes1-preserved-in-Second c = match-second c.requires c.loop-notes1.invari
 pub join_rows-requires : goal.join_rows-requires
 join_rows-requires c = (both-row-first c.requires c.loop-notes1.invariant c.next_side.ensures c.in-Both.is, both-row-second c.requires c.loop-notes1.invariant c.next_side.ensures c.in-Both.is)
 
-pub returns-in-Apart : goal.returns-in-Apart
-returns-in-Apart c = match-apart c.requires c.loop-notes1.invariant c.next_side.ensures c.in-Both.is c.join_rows.ensures c.in-Apart.is
+pub returns-in-None : goal.returns-in-None
+returns-in-None c = match-apart c.requires c.loop-notes1.invariant c.next_side.ensures c.in-Both.is c.join_rows.ensures c.in-None.is
 
 pub note-requires : goal.note-requires
 note-requires c = search (rules, both-note-first, few-rows)
 
-pub note-requires-in-At : goal.note-requires-in-At
-note-requires-in-At c = search (rules, both-note-second, few-rows)
+pub note-requires-in-Some : goal.note-requires-in-Some
+note-requires-in-Some c = search (rules, both-note-second, few-rows)
 
 pub loop-notes1-smaller : goal.loop-notes1-smaller
 loop-notes1-smaller c = less_both c.next_side.ensures c.in-Both.is
 
 pub loop-notes1-preserved : goal.loop-notes1-preserved
-loop-notes1-preserved c = match-both c.requires c.loop-notes1.invariant c.next_side.ensures c.in-Both.is c.join_rows.ensures (search rules) c.note.ensures c.note-in-At.ensures
+loop-notes1-preserved c = match-both c.requires c.loop-notes1.invariant c.next_side.ensures c.in-Both.is c.join_rows.ensures (search rules) c.note.ensures c.note-in-Some.ensures

@@ -18,5 +18,5 @@ returns-in-Less c = search (rules, side-less)
 pub returns-in-Greater : goal.returns-in-Greater
 returns-in-Greater c = search (rules, side-greater)
 
-pub returns-in-Same : goal.returns-in-Same
-returns-in-Same c = search (rules, side_same)
+pub returns-in-Equal : goal.returns-in-Equal
+returns-in-Equal c = search (rules, side_same)

@@ -5,6 +5,3 @@ use Rattle.link_relocations.proofs.count_open.Given as goal
 
 abbrev pub invariant-loop-k : goal.invariant-loop-k
 invariant-loop-k l = Counting l.n l.relocations l.notes l.count l.k
-
-abbrev pub decreases-loop-k : goal.decreases-loop-k
-decreases-loop-k l = l.n - l.k

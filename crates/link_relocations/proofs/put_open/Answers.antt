@@ -3,8 +3,8 @@ use Rattle.link_relocations.proofs.Sieved.{room_open, after-stays, after-goes, l
 use borrow.Author.Rules.{rules}
 use Rattle.link_relocations.proofs.put_open.Goals as goal
 
-pub row_u32-requires : goal.row_u32-requires
-row_u32-requires c = search (rules, room_open)
+pub row-requires : goal.row-requires
+row-requires c = search (rules, room_open)
 
 pub returns-then-is_open : goal.returns-then-is_open
 returns-then-is_open c = record { value = search (rules, after-stays); out_after = search (rules, left-stays) }

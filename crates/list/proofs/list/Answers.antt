@@ -1,17 +1,19 @@
 -- `list::list` meets its contract. Assumes nothing.
+use mathlib.Core.Path.{◌∙◌}
+use Rattle.std.specs.declared.result.Result.TheVariants.{Err}
 use lib.ListN.{length}
 use Rattle.object_check.proofs.Whole.{checked-valid}
 use Rattle.object_check.proofs.Writes.{zeros-still, writes-object, writes_short, writes-bad}
 use Rattle.list.proofs.list.Goals as goal
 
 pub list_object-requires : goal.list_object-requires
-list_object-requires c = record { valid = checked-valid _ c.check_object.ensures c.in-Object.is; out_value = zeros-still _ (length c.args.out.now) c.zero_u8.ensures }
+list_object-requires c = record { valid = checked-valid _ c.check_object.ensures c.in-Ok.is; out_value = zeros-still _ (length c.args.out.now) c.clear.ensures }
 
-pub returns-in-Object : goal.returns-in-Object
-returns-in-Object c = writes-object _ _ _ _ c.check_object.ensures _ _ _ _ c.in-Object.is c.zero_u8.ensures c.list_object.ensures
+pub returns-in-Ok : goal.returns-in-Ok
+returns-in-Ok c = writes-object _ _ _ _ c.check_object.ensures _ _ _ _ c.in-Ok.is c.clear.ensures c.list_object.ensures
 
-pub returns-in-ShortBuffer : goal.returns-in-ShortBuffer
-returns-in-ShortBuffer c = writes_short _ _ _ _ c.check_object.ensures _ _ c.in-ShortBuffer.is c.zero_u8.ensures
+pub returns-in-Err-ShortBuffer : goal.returns-in-Err-ShortBuffer
+returns-in-Err-ShortBuffer c = writes_short _ _ _ _ c.check_object.ensures _ _ (c.in-Err-ShortBuffer.is ∙ (λ i. Err (c.in-Err-ShortBuffer.field-0-is i))) c.clear.ensures
 
-pub returns-in-BadObject : goal.returns-in-BadObject
-returns-in-BadObject c = writes-bad _ _ _ _ c.check_object.ensures _ _ c.in-BadObject.is c.zero_u8.ensures
+pub returns-in-Err-BadObject : goal.returns-in-Err-BadObject
+returns-in-Err-BadObject c = writes-bad _ _ _ _ c.check_object.ensures _ _ (c.in-Err-BadObject.is ∙ (λ i. Err (c.in-Err-BadObject.field-0-is i))) c.clear.ensures

@@ -1,6 +1,5 @@
 -- `list_sections::labels_size` meets its contract. Assumes nothing.
 use borrow.Author.Rules.{rules}
-use Prim.Native.Nat.{◌-◌}
 use Rattle.rules.specs.Buffers.{view_labels}
 use Rattle.list_sections.proofs.Sizes.{label-short, added_none, added_more, added-all}
 use Rattle.list_sections.proofs.labels_size.Goals as goal

@@ -1,10 +1,6 @@
 -- `list_sections::put_blocks` meets its contract. Assumes nothing.
-use Prim.Native.Nat.{◌-◌}
 use Rattle.list_sections.proofs.Blocks.{Blocked}
 use Rattle.list_sections.proofs.put_blocks.Given as goal
 
 abbrev pub invariant-loop-k : goal.invariant-loop-k
 invariant-loop-k l = Blocked l.n l.w l.blocks l.words l.marks l.initial.out l.out l.at l.end l.first l.k
-
-abbrev pub decreases-loop-k : goal.decreases-loop-k
-decreases-loop-k l = l.n - l.k

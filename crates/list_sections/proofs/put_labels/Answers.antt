@@ -1,6 +1,5 @@
 -- `list_sections::put_labels` meets its contract. Assumes nothing.
 use borrow.Author.Rules.{rules}
-use Prim.Native.Nat.{◌-◌}
 use Rattle.rules.specs.Buffers.{view_labels}
 use Rattle.rules.specs.Listing.{label_line}
 use Rattle.list_sections.proofs.Texts.{label-low, rows_none, row_fits, row_more, rows_all}

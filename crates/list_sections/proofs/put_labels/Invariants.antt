@@ -1,5 +1,4 @@
 -- `list_sections::put_labels` meets its contract. Assumes nothing.
-use Prim.Native.Nat.{◌-◌}
 use Rattle.rules.specs.Buffers.{label_row}
 use Rattle.rules.specs.Listing.{label_line}
 use Rattle.list_sections.proofs.Texts.{Rows}
@@ -7,6 +6,3 @@ use Rattle.list_sections.proofs.put_labels.Given as goal
 
 abbrev pub invariant-loop-k : goal.invariant-loop-k
 invariant-loop-k l = Rows label_line (label_row l.labels l.names) l.n l.initial.out l.out l.at l.end l.k
-
-abbrev pub decreases-loop-k : goal.decreases-loop-k
-decreases-loop-k l = l.n - l.k

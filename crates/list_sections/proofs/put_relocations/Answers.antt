@@ -1,6 +1,5 @@
 -- `list_sections::put_relocations` meets its contract. Assumes nothing.
 use borrow.Author.Rules.{rules}
-use Prim.Native.Nat.{◌-◌}
 use Rattle.rules.specs.Buffers.{view_relocs}
 use Rattle.rules.specs.Listing.{reloc_line}
 use Rattle.list_sections.proofs.Texts.{rows_none, row_fits, row_more, rows_all}

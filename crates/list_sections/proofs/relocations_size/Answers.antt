@@ -1,15 +1,11 @@
 -- `list_sections::relocations_size` meets its contract. Assumes nothing.
 use borrow.Author.Rules.{rules}
-use Prim.Native.Nat.{◌-◌}
 use Rattle.rules.specs.Buffers.{view_relocs}
 use Rattle.list_sections.proofs.Sizes.{added_none, added_more, added-all}
 use Rattle.list_sections.proofs.relocations_size.Goals as goal
 
 pub loop-k-init : goal.loop-k-init
 loop-k-init c = search (rules, added_none)
-
-pub relocation_size-size-requires : goal.relocation_size-size-requires
-relocation_size-size-requires c = let short = c.requires.short _ c.loop-k-test.true in search rules
 
 pub loop-k-preserved : goal.loop-k-preserved
 loop-k-preserved c = search (rules, added_more)

@@ -1,5 +1,4 @@
 -- `list_sections::relocations_size` meets its contract. Assumes nothing.
-use Prim.Native.Nat.{◌-◌}
 use Rattle.rules.specs.Buffers.{reloc_row}
 use Rattle.rules.specs.Listing.{reloc_line}
 use Rattle.list_sections.proofs.Sizes.{Added}
@@ -7,6 +6,3 @@ use Rattle.list_sections.proofs.relocations_size.Given as goal
 
 abbrev pub invariant-loop-k : goal.invariant-loop-k
 invariant-loop-k l = Added reloc_line (reloc_row l.relocations l.labels l.names) l.n l.k l.size
-
-abbrev pub decreases-loop-k : goal.decreases-loop-k
-decreases-loop-k l = l.n - l.k

@@ -6,8 +6,8 @@ use Rattle.object_check_blocks.proofs.zero_at.Goals as goal
 pub zero_cell-requires : goal.zero_cell-requires
 zero_cell-requires c = (search (rules, place-words), search (rules, place-marks))
 
-pub returns-in-At : goal.returns-in-At
-returns-in-At c = search (rules, zero_held)
+pub returns-in-Some : goal.returns-in-Some
+returns-in-Some c = search (rules, zero_held)
 
-pub returns-in-Nowhere : goal.returns-in-Nowhere
-returns-in-Nowhere c = search (rules, zero-nowhere)
+pub returns-in-None : goal.returns-in-None
+returns-in-None c = search (rules, zero-nowhere)

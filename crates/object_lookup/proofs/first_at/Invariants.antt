@@ -1,10 +1,6 @@
 -- `object_lookup::first_at` meets its contract. Assumes nothing.
-use Prim.Native.Nat.{◌-◌}
 use Rattle.object_lookup.proofs.Rows.{Passed}
 use Rattle.object_lookup.proofs.first_at.Given as goal
 
 abbrev pub invariant-loop-k : goal.invariant-loop-k
 invariant-loop-k l = Passed l.n l.labels l.address l.k
-
-abbrev pub decreases-loop-k : goal.decreases-loop-k
-decreases-loop-k l = l.n - l.k

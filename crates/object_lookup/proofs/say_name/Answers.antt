@@ -6,8 +6,8 @@ use Rattle.object_lookup.proofs.say_name.Goals as goal
 pub slot_of-requires : goal.slot_of-requires
 slot_of-requires c = search (rules, rising)
 
-pub say-requires : goal.say-requires
-say-requires c = search (rules, taken_in)
+pub label_at-requires : goal.label_at-requires
+label_at-requires c = search (rules, taken_in)
 
 pub returns-in-Taken : goal.returns-in-Taken
 returns-in-Taken c = search (rules, said_row)

@@ -1,5 +1,4 @@
 -- `object_names::all_capital` meets its contract. Assumes nothing.
-use Prim.Native.Nat.{◌-◌}
 use native.Mathlib.Omega.{arith}
 use Rattle.object_names.proofs.Plain.{to_start, to-next, to-stop, to_end}
 use borrow.Author.Rules.{rules}

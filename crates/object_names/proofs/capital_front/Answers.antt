@@ -1,11 +1,7 @@
 -- `object_names::capital_front` meets its contract. Assumes nothing.
-use Prim.Native.Nat.{◌-◌}
 use native.Mathlib.Omega.{arith}
-use Rattle.object_names.proofs.Plain.{front-none, front-more}
+use Rattle.object_names.proofs.Plain.{front-more}
 use Rattle.object_names.proofs.capital_front.Goals as goal
-
-pub loop-i-init : goal.loop-i-init
-loop-i-init c = front-none _
 
 pub loop-i-preserved : goal.loop-i-preserved
 loop-i-preserved c = front-more c.loop-i.invariant c.capital_part.ensures c.if-capital_part.true (omega arith) (omega arith)

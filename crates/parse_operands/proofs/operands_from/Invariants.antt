@@ -6,6 +6,3 @@ use Rattle.parse_operands.proofs.operands_from.Given as goal
 
 abbrev pub invariant-loop-k : goal.invariant-loop-k
 invariant-loop-k l = Midway l.src l.other (fields_by l.row.count l.row.first l.row.second l.row.third) l.row.base l.at l.k l.g
-
-abbrev pub decreases-loop-k : goal.decreases-loop-k
-decreases-loop-k l = l.count - l.k

@@ -1,10 +1,6 @@
 -- `pass2_blocks::find_spot` goes along the rows to where the block belongs. Assumes nothing.
-use Prim.Native.Nat.{◌-◌}
 use Rattle.pass2_blocks.specs.Spots.{Passed}
 use Rattle.pass2_blocks.proofs.find_spot.Given as goal
 
 abbrev pub invariant-loop-k : goal.invariant-loop-k
 invariant-loop-k l = Passed l.blocks l.n l.start l.size l.k l.at
-
-abbrev pub decreases-loop-k : goal.decreases-loop-k
-decreases-loop-k l = l.n - l.k

@@ -1,10 +1,7 @@
 -- `pass2_blocks::place_block` places a block as the rules do. Assumes nothing.
 use borrow.Author.Rules.{rules}
-use Rattle.pass2_blocks.proofs.Answers.{clash-row, spot-clashes, spot-free, spot-places}
+use Rattle.pass2_blocks.proofs.Answers.{spot-clashes, spot-free, spot-places}
 use Rattle.pass2_blocks.proofs.place_block.Goals as goal
-
-pub overlap_with-requires : goal.overlap_with-requires
-overlap_with-requires c = search (rules, clash-row)
 
 pub insert_block-requires : goal.insert_block-requires
 insert_block-requires c = search (rules, spot-free)

@@ -1,24 +1,6 @@
 -- `pass2_statement::write_statement` meets its contract. Assumes nothing.
-use Rattle.pass2_statement.proofs.ByKind.{writes-emits, writes-begins, writes-ends, instr-written, fill-written, blkw-written, string-written, orig-written, end-written, external-written}
+use Rattle.pass2_statement.proofs.ByKind.{instr-written, fill-written, blkw-written, string-written, orig-written, end-written, external-written}
 use Rattle.pass2_statement.proofs.write_statement.Goals as goal
-
-pub emit_words-requires : goal.emit_words-requires
-emit_words-requires c = writes-emits _ _ _ _ _ _ _ _ _ c.requires
-
-pub emit_words-requires-in-Fill : goal.emit_words-requires-in-Fill
-emit_words-requires-in-Fill c = writes-emits _ _ _ _ _ _ _ _ _ c.requires
-
-pub emit_words-requires-in-Blkw : goal.emit_words-requires-in-Blkw
-emit_words-requires-in-Blkw c = writes-emits _ _ _ _ _ _ _ _ _ c.requires
-
-pub emit_words-requires-in-Stringz : goal.emit_words-requires-in-Stringz
-emit_words-requires-in-Stringz c = writes-emits _ _ _ _ _ _ _ _ _ c.requires
-
-pub begin_block-requires : goal.begin_block-requires
-begin_block-requires c = writes-begins _ _ _ _ _ _ _ _ _ c.requires c.in-Orig.is
-
-pub finish_block-requires : goal.finish_block-requires
-finish_block-requires c = writes-ends _ _ _ _ _ _ _ _ _ c.requires c.in-End.is
 
 pub returns-in-Instr : goal.returns-in-Instr
 returns-in-Instr c = λ at s f. instr-written _ _ _ _ _ _ _ _ _ c.requires at s f _ _ _ (c.emit_words.ensures _ _ at s c.requires.standing f) c.in-Instr.is

@@ -1,6 +1,7 @@
 -- `pass2_words::write_words` meets its contract. Assumes nothing.
+use mathlib.Core.Path.{refl}
 use borrow.Author.Rules.{rules}
-use Rattle.pass2_words.proofs.Statements.{instr-room, instr-low, fill-room, string-fits, wrote-instr, wrote-fill, wrote-blkw, wrote-string, wrote-orig, wrote-end, wrote-external}
+use Rattle.pass2_words.proofs.Statements.{instr-room, instr-low, fill-room, string-fits, wrote-blkw, wrote-string, wrote-orig, wrote-end, wrote-external}
 use Rattle.pass2_words.proofs.write_words.Goals as goal
 
 pub instr_word-answer-requires : goal.instr_word-answer-requires
@@ -15,14 +16,8 @@ put_answer-requires-in-Fill c = search (rules, fill-room)
 pub put_string-requires : goal.put_string-requires
 put_string-requires c = search (rules, string-fits)
 
-pub returns-in-Instr : goal.returns-in-Instr
-returns-in-Instr c = λ at s f. wrote-instr _ _ _ _ _ _ _ _ c.requires at s f _ _ _ _ c.put_answer.ensures c.in-Instr.is (c.instr_word-answer.ensures at s f)
-
-pub returns-in-Fill : goal.returns-in-Fill
-returns-in-Fill c = λ at s f. wrote-fill _ _ _ _ _ _ _ _ c.requires at s f _ _ _ _ c.put_answer-in-Fill.ensures c.in-Fill.is (c.fill_word-answer.ensures at s f _)
-
 pub returns-in-Blkw : goal.returns-in-Blkw
-returns-in-Blkw c = λ at s f. wrote-blkw _ _ _ _ _ _ _ _ c.requires at s f c.in-Blkw.is _ c.wide.ensures.0
+returns-in-Blkw c = λ at s f. wrote-blkw _ _ _ _ _ _ _ _ c.requires at s f c.in-Blkw.is _ refl
 
 pub returns-in-Stringz : goal.returns-in-Stringz
 returns-in-Stringz c = λ at s f. wrote-string _ _ _ _ _ _ _ _ c.requires at s f c.in-Stringz.is _ _ _ c.put_string.ensures

@@ -6,4 +6,4 @@ pub returns-then-answer-eq0 : goal.returns-then-answer-eq0
 returns-then-answer-eq0 c = object-stored _ _ _ _ _ c.if-answer-eq0.true _ c.counts_of-c.ensures c.store.ensures
 
 pub returns : goal.returns
-returns c = handed-on _ _ _ _ c.if-answer-eq0.false c.zero_u8.ensures
+returns c = handed-on _ _ _ _ c.if-answer-eq0.false c.clear.ensures

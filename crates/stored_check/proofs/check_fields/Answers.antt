@@ -1,5 +1,4 @@
 -- `stored_check::check_fields` meets its contract. The loop's invariant: the walk tells what was read. Assumes nothing.
-use Prim.Native.Nat.{◌-◌}
 use mathlib.Core.Path.{◌∙◌}
 use Rattle.stored_check.proofs.Turns.{turning-start, turned_more, turned-run, turned-less, turned-whole, turned-broken}
 use Rattle.stored_check.proofs.check_fields.Goals as goal

@@ -1,15 +1,11 @@
 -- `stored_load::fill` meets its contract: a law for each way through the loop's body. Assumes nothing.
-use Prim.Native.Nat.{◌-◌}
 use native.Mathlib.Omega.{arith}
-use Rattle.stored_load.proofs.Going.{filling-none, filling-going, filling-fits, filling-less, filling-next, filling-roomy, filling-both, filling-whole, filling-broken}
+use Rattle.stored_load.proofs.Going.{filling-none, filling-fits, filling-less, filling-next, filling-roomy, filling-both, filling-whole, filling-broken}
 use borrow.Author.Rules.{rules}
 use Rattle.stored_load.proofs.fill.Goals as goal
 
 pub loop-next-init : goal.loop-next-init
 loop-next-init c = filling-none c.requires (λ i. omega (arith, c.type_inv.bytes i)) c.begin-w.ensures
-
-pub step-requires : goal.step-requires
-step-requires c = search (rules, filling-going)
 
 pub put_fitting-requires : goal.put_fitting-requires
 put_fitting-requires c = filling-fits c.loop-next.invariant _ _ c.step.ensures c.in-On.is

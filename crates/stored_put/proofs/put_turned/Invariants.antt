@@ -1,11 +1,6 @@
 -- `stored_put::put_turned` meets its contract. Assumes nothing.
-use Prim.Native.Nat.{◌-◌}
-use Rattle.stored_put.specs.Laid.{turned_numbers}
-use Rattle.stored_put.proofs.Words.{Filling}
+use Rattle.stored_put.proofs.Words.{Copying}
 use Rattle.stored_put.proofs.put_turned.Given as goal
 
 abbrev pub invariant-loop-i : goal.invariant-loop-i
-invariant-loop-i l = Filling l.initial.words l.at (turned_numbers l.bytes l.start l.n) l.n l.words l.i
-
-abbrev pub decreases-loop-i : goal.decreases-loop-i
-decreases-loop-i l = l.n - l.i
+invariant-loop-i l = Copying l.bytes l.start l.word-items l.i

@@ -11,7 +11,7 @@ pub returns-then-size-at-lt-HEAD_BYTES : goal.returns-then-size-at-lt-HEAD_BYTES
 returns-then-size-at-lt-HEAD_BYTES c = search (rules, told-short)
 
 pub returns-then-size-start : goal.returns-then-size-start
-returns-then-size-start c = let size = c.wide16-length.ensures.0 ∙ c.number_at.ensures in search (rules, told-cut)
+returns-then-size-start c = let size = c.from-length.ensures ∙ c.number_at.ensures in search (rules, told-cut)
 
 pub returns : goal.returns
-returns c = let size = c.wide16-length.ensures.0 ∙ c.number_at.ensures in search (rules, told-found)
+returns c = let size = c.from-length.ensures ∙ c.number_at.ensures in search (rules, told-found)

@@ -1,16 +1,12 @@
--- `stored_run::end_above` meets its contract: a law for each return. Assumes nothing.
-use borrow.Author.Rules.{rules}
-use Rattle.stored_run.proofs.Names.{above-taken, above-none}
+-- `stored_run::end_above` meets its contract: a name that may follow ends where it does. Assumes nothing.
+use mathlib.Core.Path.{◌≡◌}
+use Rattle.rules.proofs.Bools.{never}
+use Rattle.std.specs.declared.cmp.Ordering.TheVariants.{Less}
+use Rattle.stored_run.proofs.Names.{above-taken}
 use Rattle.stored_run.proofs.end_above.Goals as goal
+use Rattle.stored_run.proofs.end_above.Goals.{in-Less, in_default}
 
 pub returns-then-is_label : goal.returns-then-is_label
-returns-then-is_label c = search (rules, above-taken)
-
-pub returns-else-is_label : goal.returns-else-is_label
-returns-else-is_label c = above-none
-
-pub returns-in-Same : goal.returns-in-Same
-returns-in-Same c = above-none
-
-pub returns-in-Greater : goal.returns-in-Greater
-returns-in-Greater c = above-none
+returns-then-is_label c =
+    let less : c.compare_bytes-order.result ≡ Less = elim c.match-matches.branch [ in-Less w ↦ (cc) | in_default w ↦ never cc ] in
+    above-taken c.compare_bytes-order.ensures less c.is_label.ensures c.if-is_label.true

@@ -1,10 +1,6 @@
 -- `stored_run::run_from` meets its contract: a law for each way through the loop. Assumes nothing.
-use Prim.Native.Nat.{◌-◌}
 use Rattle.stored_run.proofs.Running.{Running}
 use Rattle.stored_run.proofs.run_from.Given as goal
 
 abbrev pub invariant-loop-k : goal.invariant-loop-k
 invariant-loop-k l = Running l.bytes l.initial.places l.places l.w l.last l.at l.k l.named
-
-abbrev pub decreases-loop-k : goal.decreases-loop-k
-decreases-loop-k l = 1024 - l.k

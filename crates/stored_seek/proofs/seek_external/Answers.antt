@@ -1,5 +1,4 @@
 -- `stored_seek::seek_external` meets its contract. The loop's invariant: rows below `low` are before the name, rows from `high` on after it. Assumes nothing.
-use Prim.Native.Nat.{◌-◌}
 use mathlib.Core.Path.{refl}
 use borrow.Author.Rules.{rules}
 use Rattle.stored_seek.proofs.Externals.{narrowed-start, narrowed-end, middle-in, place_in, narrowed-up, narrowed-down, hit-external, hit-defined}
@@ -24,10 +23,10 @@ pub bounds-bytes-at : goal.bounds-bytes-at
 bounds-bytes-at c = search (rules, place_in)
 
 pub returns-then-bytes-at-eq-EXTERNAL_LABEL : goal.returns-then-bytes-at-eq-EXTERNAL_LABEL
-returns-then-bytes-at-eq-EXTERNAL_LABEL c s end h = hit-external _ _ _ _ _ _ c.loop-low.invariant c.loop-low-test.true _ refl _ c.label_name.ensures _ c.compare_bytes.ensures c.in-Same.is s end h c.if-bytes-at-eq-EXTERNAL_LABEL.true
+returns-then-bytes-at-eq-EXTERNAL_LABEL c s end h = hit-external _ _ _ _ _ _ c.loop-low.invariant c.loop-low-test.true _ refl _ c.label_name.ensures _ c.compare_bytes.ensures c.in-Equal.is s end h c.if-bytes-at-eq-EXTERNAL_LABEL.true
 
-pub returns-in-Same : goal.returns-in-Same
-returns-in-Same c s end h = hit-defined _ _ _ _ _ _ c.loop-low.invariant c.loop-low-test.true _ refl _ c.label_name.ensures _ c.compare_bytes.ensures c.in-Same.is s end h c.if-bytes-at-eq-EXTERNAL_LABEL.false
+pub returns-in-Equal : goal.returns-in-Equal
+returns-in-Equal c s end h = hit-defined _ _ _ _ _ _ c.loop-low.invariant c.loop-low-test.true _ refl _ c.label_name.ensures _ c.compare_bytes.ensures c.in-Equal.is s end h c.if-bytes-at-eq-EXTERNAL_LABEL.false
 
 pub returns : goal.returns
 returns c = search (rules, narrowed-end)

@@ -1,5 +1,4 @@
 -- `stored_seek::seek_word` meets its contract. The loop's invariant: the search may go on where it stands. Assumes nothing.
-use Prim.Native.Nat.{◌-◌}
 use borrow.Author.Rules.{rules}
 use Rattle.stored_seek.proofs.Words.{searching-start, searching-less, searching-more, searching-found, searching-none}
 use Rattle.stored_seek.proofs.seek_word.Goals as goal

@@ -8,11 +8,11 @@ seek_near-requires c = reloc-listed _ _ _ c.requires.going
 pub relocated-requires : goal.relocated-requires
 relocated-requires c = relocs-less _ _ c.requires.wanted_value
 
-pub returns-in-External : goal.returns-in-External
-returns-in-External c = reloc-taken _ _ _ _ _ _ c.requires.reloc_at c.requires.wanted_value _ c.seek_word-word.ensures c.if-word.true _ c.part_of-name.ensures _ c.seek_near.ensures _ c.in-External.is _ c.relocated.ensures
+pub returns-in-Some : goal.returns-in-Some
+returns-in-Some c = reloc-taken _ _ _ _ _ _ c.requires.reloc_at c.requires.wanted_value _ c.seek_word-word.ensures c.if-word.true _ c.part_of-name.ensures _ c.seek_near.ensures _ c.in-Some.is _ c.relocated.ensures
 
-pub returns-in-Other : goal.returns-in-Other
-returns-in-Other c = name-refused _ _ _ _ _ _ c.requires.reloc_at c.requires.wanted_value _ c.seek_word-word.ensures c.if-word.true _ c.part_of-name.ensures _ c.seek_near.ensures c.in-Other.is
+pub returns-in-None : goal.returns-in-None
+returns-in-None c = name-refused _ _ _ _ _ _ c.requires.reloc_at c.requires.wanted_value _ c.seek_word-word.ensures c.if-word.true _ c.part_of-name.ensures _ c.seek_near.ensures c.in-None.is
 
 pub returns : goal.returns
 returns c = word-refused _ _ _ _ _ _ c.requires.reloc_at c.requires.wanted_value _ c.seek_word-word.ensures c.if-word.false

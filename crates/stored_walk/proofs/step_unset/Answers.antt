@@ -7,10 +7,10 @@ pub grown-requires : goal.grown-requires
 grown-requires c = record { size_le_owed = unset-owed _ _ (sym c.unset_fits.ensures ∙ c.if-unset_fits.true); owed_bound = c.requires.owed_bound }
 
 pub returns-then-unset_fits : goal.returns-then-unset_fits
-returns-then-unset_fits c = unset-taken _ _ _ _ _ c.requires.stands c.if-end-start-eq-NUMBER_BYTES.true (c.wide16-size.ensures.0 ∙ c.number_at.ensures) (sym c.unset_fits.ensures ∙ c.if-unset_fits.true) _ c.grown.ensures
+returns-then-unset_fits c = unset-taken _ _ _ _ _ c.requires.stands c.if-end-start-eq-NUMBER_BYTES.true (c.from-size.ensures ∙ c.number_at.ensures) (sym c.unset_fits.ensures ∙ c.if-unset_fits.true) _ c.grown.ensures
 
 pub returns-then-end-start-eq-NUMBER_BYTES : goal.returns-then-end-start-eq-NUMBER_BYTES
-returns-then-end-start-eq-NUMBER_BYTES c = unset-refused _ _ _ _ _ c.requires.stands c.if-end-start-eq-NUMBER_BYTES.true (c.wide16-size.ensures.0 ∙ c.number_at.ensures) (sym c.unset_fits.ensures ∙ c.if-unset_fits.false)
+returns-then-end-start-eq-NUMBER_BYTES c = unset-refused _ _ _ _ _ c.requires.stands c.if-end-start-eq-NUMBER_BYTES.true (c.from-size.ensures ∙ c.number_at.ensures) (sym c.unset_fits.ensures ∙ c.if-unset_fits.false)
 
 pub returns : goal.returns
 returns c = unset-long _ _ _ _ c.requires.stands c.if-end-start-eq-NUMBER_BYTES.false

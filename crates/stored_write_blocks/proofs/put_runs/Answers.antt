@@ -1,14 +1,10 @@
 -- `stored_write_blocks::put_runs` meets its contract. Assumes nothing.
 use borrow.Author.Rules.{rules}
-use Prim.Native.Nat.{◌-◌}
-use Rattle.stored_write_blocks.proofs.Runs.{runs-out-none, some-rest, stop-within, run-less, run_fits, run-fits-in, run_more, runs-out-all}
+use Rattle.stored_write_blocks.proofs.Runs.{runs-out-none, stop-within, run-less, run_fits, run-fits-in, run_more, runs-out-all}
 use Rattle.stored_write_blocks.proofs.put_runs.Goals as goal
 
 pub loop-i-init : goal.loop-i-init
 loop-i-init c = search (rules, runs-out-none)
-
-pub run_ahead-size-requires : goal.run_ahead-size-requires
-run_ahead-size-requires c = search (rules, some-rest)
 
 pub overflow_add-stop : goal.overflow_add-stop
 overflow_add-stop c = let stop = stop-within c.args.marks.now c.loop-i.i c.run_ahead-size.result c.run_ahead-size.ensures c.loop-i-test.true in search rules

@@ -1,14 +1,7 @@
 -- `stored_write_blocks::runs_size` meets its contract. Assumes nothing.
 use borrow.Author.Rules.{rules}
-use Prim.Native.Nat.{◌-◌}
-use Rattle.stored_write_blocks.proofs.Runs.{runs-summed-none, some-rest, run-some, run-few, stop-within, run-less, run-summed, runs-summed-all}
+use Rattle.stored_write_blocks.proofs.Runs.{run-some, run-few, stop-within, run-less, run-summed, runs-summed-all}
 use Rattle.stored_write_blocks.proofs.runs_size.Goals as goal
-
-pub loop-i-init : goal.loop-i-init
-loop-i-init c = search (rules, runs-summed-none)
-
-pub run_ahead-n-requires : goal.run_ahead-n-requires
-run_ahead-n-requires c = search (rules, some-rest)
 
 pub run_bytes-size-requires : goal.run_bytes-size-requires
 run_bytes-size-requires c = search (rules, run-some, run-few)

@@ -1,34 +1,12 @@
 -- `stored_write_labels::labels_size` meets its contract. Assumes nothing.
 use borrow.Author.Rules.{rules}
-use Prim.Native.Nat.{◌-◌}
 use native.Mathlib.Omega.{arith}
 use Rattle.stored_write_labels.proofs.Rows.{label-rows}
-use Rattle.stored_write_labels.proofs.Sizes.{added_none, added_more, added-all, cells-there, name-low, sized_row}
+use Rattle.stored_write_labels.proofs.Sizes.{added_none, added_more, added-all, name-low, sized_row}
 use Rattle.stored_write_labels.proofs.labels_size.Goals as goal
 
 pub loop-k-init : goal.loop-k-init
 loop-k-init c = search (rules, added_none)
-
-pub overflow_mul-i : goal.overflow_mul-i
-overflow_mul-i c = search (rules, cells-there)
-
-pub overflow_add-i : goal.overflow_add-i
-overflow_add-i c = search (rules, cells-there)
-
-pub offset_bounds-labels-i : goal.offset_bounds-labels-i
-offset_bounds-labels-i c = search (rules, cells-there)
-
-pub bounds-labels-i : goal.bounds-labels-i
-bounds-labels-i c = search (rules, cells-there)
-
-pub overflow_add-i-in-loop-k : goal.overflow_add-i-in-loop-k
-overflow_add-i-in-loop-k c = search (rules, cells-there)
-
-pub offset_bounds-labels-i-in-loop-k : goal.offset_bounds-labels-i-in-loop-k
-offset_bounds-labels-i-in-loop-k c = search (rules, cells-there)
-
-pub bounds-labels-i-in-loop-k : goal.bounds-labels-i-in-loop-k
-bounds-labels-i-in-loop-k c = search (rules, cells-there)
 
 pub label_size-size-requires : goal.label_size-size-requires
 label_size-size-requires c = search (rules, name-low)

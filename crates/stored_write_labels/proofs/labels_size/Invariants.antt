@@ -1,5 +1,4 @@
 -- `stored_write_labels::labels_size` meets its contract. Assumes nothing.
-use Prim.Native.Nat.{◌-◌}
 use Rattle.rules.specs.Buffers.{label_row}
 use Rattle.stored_write_labels.specs.Tables.{label_field}
 use Rattle.stored_write_labels.proofs.Sizes.{Added}
@@ -7,6 +6,3 @@ use Rattle.stored_write_labels.proofs.labels_size.Given as goal
 
 abbrev pub invariant-loop-k : goal.invariant-loop-k
 invariant-loop-k l = Added label_field (label_row l.labels l.names) l.n l.k l.size
-
-abbrev pub decreases-loop-k : goal.decreases-loop-k
-decreases-loop-k l = l.n - l.k

@@ -1,6 +1,5 @@
 -- `stored_write_labels::put_labels` meets its contract. Assumes nothing.
 use borrow.Author.Rules.{rules}
-use Prim.Native.Nat.{◌-◌}
 use Rattle.list_sections.proofs.Sizes.{label-short}
 use Rattle.list_sections.proofs.Texts.{label-low, row_more}
 use Rattle.stored_write_labels.specs.Tables.{label_field}

@@ -1,5 +1,4 @@
 -- `stored_write_labels::put_labels` meets its contract. Assumes nothing.
-use Prim.Native.Nat.{◌-◌}
 use Rattle.rules.specs.Buffers.{label_row}
 use Rattle.list_sections.proofs.Texts.{Rows}
 use Rattle.stored_write_labels.specs.Tables.{label_field}
@@ -7,6 +6,3 @@ use Rattle.stored_write_labels.proofs.put_labels.Given as goal
 
 abbrev pub invariant-loop-k : goal.invariant-loop-k
 invariant-loop-k l = Rows label_field (label_row l.labels l.names) l.n l.initial.out l.out l.at l.end l.k
-
-abbrev pub decreases-loop-k : goal.decreases-loop-k
-decreases-loop-k l = l.n - l.k

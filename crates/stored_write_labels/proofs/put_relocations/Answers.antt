@@ -1,6 +1,5 @@
 -- `stored_write_labels::put_relocations` meets its contract. Assumes nothing.
 use borrow.Author.Rules.{rules}
-use Prim.Native.Nat.{◌-◌}
 use Rattle.list_sections.proofs.Texts.{row_more}
 use Rattle.stored_write_labels.specs.Tables.{reloc_field}
 use Rattle.stored_write_labels.proofs.Rows.{reloc-rows, fields-none, field_fits, fields-all}

@@ -1,5 +1,4 @@
 -- `view_due::last_label` meets its contract. Assumes nothing.
-use Prim.Native.Nat.{◌-◌}
 use mathlib.Core.Path.{refl}
 use Rattle.view_due.proofs.Dues.{label-done, label-less, label-more}
 use borrow.Author.Rules.{rules}

@@ -1,5 +1,4 @@
 -- `view_far::has_label` meets its contract: the labels from here on have the name where those from the place have it. Assumes nothing.
-use Prim.Native.Nat.{◌-◌}
 use mathlib.Core.Path.{refl}
 use Rattle.view_far.proofs.Naming.{label-less, label_same, label-more, label-done}
 use Rattle.view_far.proofs.has_label.Goals as goal

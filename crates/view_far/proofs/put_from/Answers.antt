@@ -4,10 +4,10 @@ use borrow.Author.Rules.{rules}
 use Rattle.view_far.proofs.put_from.Goals as goal
 
 pub offset_from-requires : goal.offset_from-requires
-offset_from-requires c = (search rules, label_small _ c.args.st c.requires.0 _ c.where_is.ensures _ _ c.in-At.is)
+offset_from-requires c = (search rules, label_small _ c.args.st c.requires.0 _ c.where_is.ensures _ _ c.in-Some.is)
 
-pub returns-in-At : goal.returns-in-At
-returns-in-At c = to-there _ c.args.st c.requires.0 _ c.where_is.ensures _ _ _ c.in-At.is c.offset_from.ensures.0 c.put_line.ensures
+pub returns-in-Some : goal.returns-in-Some
+returns-in-Some c = to-there _ c.args.st c.requires.0 _ c.where_is.ensures _ _ _ c.in-Some.is c.offset_from.ensures.0 c.put_line.ensures
 
-pub returns-in-Nothing : goal.returns-in-Nothing
-returns-in-Nothing c = to_none _ c.args.st c.requires.0 _ c.where_is.ensures _ _ _ c.in-Nothing.is
+pub returns-in-None : goal.returns-in-None
+returns-in-None c = to_none _ c.args.st c.requires.0 _ c.where_is.ensures _ _ _ c.in-None.is

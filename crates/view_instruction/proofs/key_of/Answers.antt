@@ -20,7 +20,7 @@ returns-in-NOT c = key-arm c.in-NOT.is refl
 
 pub returns-in-BR : goal.returns-in-BR
 unfolding key_row keys spelling meant
-returns-in-BR c = key-branch c.in-BR.is c.wide16.ensures.0
+returns-in-BR c = key-branch c.in-BR.is c.from.ensures
 
 pub returns-in-JMP : goal.returns-in-JMP
 unfolding key_row keys spelling meant

@@ -1,15 +1,14 @@
 -- `view_line::put_under` meets its contract. Assumes nothing.
-use Prim.Native.Nat.{◌-◌}
 use Rattle.view_line.proofs.LineTexts.{mapped-all, mapped-more}
 use Rattle.view_text.proofs.Putting.{put-none, put-size}
 use borrow.Author.Rules.{rules}
 use Rattle.view_line.proofs.put_under.Goals as goal
 
-pub loop-i-init : goal.loop-i-init
-loop-i-init c = search (rules, put-none)
+pub loop-b-init : goal.loop-b-init
+loop-b-init c = search (rules, put-none)
 
-pub loop-i-preserved : goal.loop-i-preserved
-loop-i-preserved c = search (rules, mapped-more)
+pub loop-b-preserved : goal.loop-b-preserved
+loop-b-preserved c = search (rules, mapped-more)
 
 pub shape_of-out : goal.shape_of-out
 shape_of-out c = search (rules, put-size)

@@ -1,13 +1,9 @@
 -- `view_line::put_under` meets its contract. Assumes nothing.
-use Prim.Native.Nat.{◌-◌}
-use Rattle.view_line.specs.Shown.{under_byte}
 use Rattle.view_text.specs.Put.{Put}
-use lib.ListN.{length, take}
+use lib.ListN.{take}
+use Rattle.view_line.specs.Shown.{under_byte}
 use mathlib.Core.List.{map}
 use Rattle.view_line.proofs.put_under.Given as goal
 
-abbrev pub invariant-loop-i : goal.invariant-loop-i
-invariant-loop-i l = Put l.initial.out l.out l.at l.end (map (under_byte l.mark) (take l.i l.text))
-
-abbrev pub decreases-loop-i : goal.decreases-loop-i
-decreases-loop-i l = length l.text - l.i
+abbrev pub invariant-loop-b : goal.invariant-loop-b
+invariant-loop-b l = Put l.initial.out l.out l.at l.end (map (under_byte l.mark) (take l.b-index l.text))

@@ -1,11 +1,7 @@
 -- `view_object::block_row` meets its contract. Assumes nothing.
-use Rattle.std.proofs.Common.{◌-◌}
 use Rattle.view_object.specs.Pieces.{covers}
 use Rattle.view_word.proofs.Seeking.{Seeking}
 use Rattle.view_object.proofs.block_row.Given as goal
 
 abbrev pub invariant-loop-row : goal.invariant-loop-row
 invariant-loop-row l = Seeking (covers l.blocks l.address) l.n l.row
-
-abbrev pub decreases-loop-row : goal.decreases-loop-row
-decreases-loop-row l = l.n - l.row

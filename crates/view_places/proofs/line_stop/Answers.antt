@@ -1,12 +1,7 @@
 -- `view_places::line_stop` meets its contract. Assumes nothing.
-use Prim.Native.Nat.{◌-◌}
-use mathlib.Core.Path.{refl}
 use borrow.Author.Rules.{rules}
 use Rattle.view_places.proofs.LineLaws.{stop-again, stop-here, stop-over}
 use Rattle.view_places.proofs.line_stop.Goals as goal
-
-pub loop-i-init : goal.loop-i-init
-loop-i-init c = (refl, search rules)
 
 pub returns-then-ends_line : goal.returns-then-ends_line
 returns-then-ends_line c = search (rules, stop-here)

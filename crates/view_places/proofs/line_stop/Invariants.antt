@@ -1,12 +1,7 @@
 -- `view_places::line_stop` meets its contract. Assumes nothing.
-use Prim.Native.Nat.{◌-◌, ◌≤◌}
 use mathlib.Core.Path.{◌≡◌}
-use lib.ListN.{length}
 use Rattle.view_places.specs.Lines.{line_stop}
 use Rattle.view_places.proofs.line_stop.Given as goal
 
 abbrev pub invariant-loop-i : goal.invariant-loop-i
-invariant-loop-i l = (line_stop l.src l.i ≡ line_stop l.src l.first) × (l.i ≤ length l.src)
-
-abbrev pub decreases-loop-i : goal.decreases-loop-i
-decreases-loop-i l = length l.src - l.i
+invariant-loop-i l = line_stop l.src l.i ≡ line_stop l.src l.first

@@ -1,11 +1,7 @@
 -- `view_word::label_row` meets its contract. Assumes nothing.
-use Rattle.std.proofs.Common.{◌-◌}
 use Rattle.view_word.specs.Labels.{stands_at}
 use Rattle.view_word.proofs.Seeking.{Seeking}
 use Rattle.view_word.proofs.label_row.Given as goal
 
 abbrev pub invariant-loop-row : goal.invariant-loop-row
 invariant-loop-row l = Seeking (stands_at l.labels l.address) l.n l.row
-
-abbrev pub decreases-loop-row : goal.decreases-loop-row
-decreases-loop-row l = l.n - l.row

@@ -1,5 +1,5 @@
 -- `view_word::last_row` meets its contract. Assumes nothing.
-use Rattle.std.proofs.Common.{◌-◌, rules}
+use Rattle.std.proofs.Common.{rules}
 use Rattle.view_word.proofs.Rows.{last-start, last_more, last-all}
 use Rattle.view_word.proofs.last_row.Goals as goal
 

@@ -1,5 +1,5 @@
 -- `view_word::put_labels` meets its contract. Assumes nothing.
-use Rattle.std.proofs.Common.{◌-◌, rules}
+use Rattle.std.proofs.Common.{rules}
 use Rattle.view_word.proofs.Rows.{own-none, own-more, own-size, own-all}
 use Rattle.view_word.proofs.put_labels.Goals as goal
 

@@ -1,5 +1,5 @@
 -- `view_word::relocation_row` meets its contract. Assumes nothing.
-use Rattle.std.proofs.Common.{◌-◌, rules}
+use Rattle.std.proofs.Common.{rules}
 use Rattle.view_word.proofs.Seeking.{seek-start, seek-on, seek_found, seek-none}
 use Rattle.view_word.proofs.relocation_row.Goals as goal
 

@@ -3,4 +3,4 @@ use Rattle.view_word.proofs.Rows.{stands-row}
 use Rattle.view_word.proofs.stands_at.Goals as goal
 
 pub returns : goal.returns
-returns c = stands-row _ _ _ c.is_defined.ensures c.label_cell.ensures c.word32.ensures.0
+returns c = stands-row _ _ _ c.is_defined.ensures c.label_cell.ensures c.from.ensures

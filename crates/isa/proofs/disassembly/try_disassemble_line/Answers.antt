@@ -2,6 +2,8 @@
 use Prim.Native.Nat.{zero-le}
 use native.Mathlib.Nat.{le_antisymm}
 use native.Mathlib.Omega.{arith}
+use mathlib.Core.Path.{ap, ◌∙◌}
+use Rattle.isa.specs.Disassembly.{meant_if}
 use Rattle.isa.proofs.Exact.{up, fill-low, fill-D, branch-shows, add-shows, add-hides, ld-shows, st-shows, and-shows, and-hides, ldr-shows, str-shows, rti-shows, rti-hides, not-shows, not-hides, ldi-shows, sti-shows, lea-shows}
 use Rattle.isa.proofs.disassembly.try_disassemble_line.Goals as goal
 
@@ -17,11 +19,11 @@ decode_trap-requires c =
 pub returns-in-0 : goal.returns-in-0
 returns-in-0 c = branch-shows _ _ c.if-word-lt-LEAST_WORD.false c.in-0.is c.offset9_of.ensures
 
-pub returns-in-Operand : goal.returns-in-Operand
-returns-in-Operand c = add-shows _ _ _ c.in-1.is c.last_operand.ensures c.in-Operand.is
+pub returns-in_ok-last_operand-in-1 : goal.returns-in_ok-last_operand-in-1
+returns-in_ok-last_operand-in-1 c = add-shows _ _ _ c.in-1.is c.last_operand.ensures c.in_ok-last_operand-in-1.was
 
-pub returns-in-Malformed : goal.returns-in-Malformed
-returns-in-Malformed c = add-hides _ _ c.in-1.is c.last_operand.ensures c.in-Malformed.is
+pub returns-in_err-last_operand-in-1 : goal.returns-in_err-last_operand-in-1
+returns-in_err-last_operand-in-1 c = ap meant_if c.from_residual.ensures ∙ add-hides _ _ c.in-1.is c.last_operand.ensures c.in_err-last_operand-in-1.was
 
 pub returns-in-2 : goal.returns-in-2
 returns-in-2 c = ld-shows _ _ c.in-2.is c.offset9_of-in-2.ensures
@@ -32,11 +34,11 @@ returns-in-3 c = st-shows _ _ c.in-3.is c.offset9_of-in-3.ensures
 pub returns-in-4 : goal.returns-in-4
 returns-in-4 c = c.decode_jsr.ensures
 
-pub returns-in-Operand-last_operand : goal.returns-in-Operand-last_operand
-returns-in-Operand-last_operand c = and-shows _ _ _ c.in-5.is c.last_operand-in-5.ensures c.in-Operand-last_operand.is
+pub returns-in_ok-last_operand-in-5 : goal.returns-in_ok-last_operand-in-5
+returns-in_ok-last_operand-in-5 c = and-shows _ _ _ c.in-5.is c.last_operand-in-5.ensures c.in_ok-last_operand-in-5.was
 
-pub returns-in-Malformed-last_operand : goal.returns-in-Malformed-last_operand
-returns-in-Malformed-last_operand c = and-hides _ _ c.in-5.is c.last_operand-in-5.ensures c.in-Malformed-last_operand.is
+pub returns-in_err-last_operand-in-5 : goal.returns-in_err-last_operand-in-5
+returns-in_err-last_operand-in-5 c = ap meant_if c.from_residual-in_err-last_operand-in-5.ensures ∙ and-hides _ _ c.in-5.is c.last_operand-in-5.ensures c.in_err-last_operand-in-5.was
 
 pub returns-in-6 : goal.returns-in-6
 returns-in-6 c = ldr-shows _ _ c.in-6.is c.offset6_of.ensures

@@ -1,8 +1,0 @@
--- `test_lex::rows_right` meets its contract. Assumes nothing.
-use Rattle.test_lex.proofs.rows_right.Given as goal
-
-abbrev pub invariant-loop-left : goal.invariant-loop-left
-invariant-loop-left l = Unit {0}
-
-abbrev pub decreases-loop-left : goal.decreases-loop-left
-decreases-loop-left l = l.left
