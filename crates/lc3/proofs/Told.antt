@@ -20,7 +20,6 @@ use Rattle.rules.specs.Calls.{OfObject}
 use Rattle.rules.proofs.Bools.{never}
 use Rattle.link.specs.Call.{Linked}
 use Rattle.object_answer.specs.Writes.{Writes}
-use Rattle.object_answer.specs.declared.Written.{Written}
 use Rattle.object_lookup.specs.Told.{said, Reversed}
 use Rattle.object_lookup.proofs.Once.{row-valid}
 use Rattle.std.specs.declared.result.Result.TheVariants.{Ok, Err}
@@ -35,7 +34,6 @@ use Rattle.object_answer.specs.Meant.{meant, Leaves}
 use Rattle.lc3_answers.specs.declared.Reply.{Reply}
 use Rattle.lc3_answers.proofs.Lexemes.{lexeme-told}
 use Rattle.lc3_answers.specs.Told.{reply, row, answered, counted, next_told, lexeme_told, statements_told, written_told, said_told, RowIn, found_told, line_told}
-use Rattle.object_answer.specs.declared.Written.TheVariants.{Bytes}
 use Rattle.laws_stored.specs.Offsets.{part_at}
 use Rattle.view_places.specs.Lines.{feeds, since}
 use Rattle.view_text.specs.Put.{Put}
@@ -69,7 +67,7 @@ module _ {r : Reply} {out : List ℕ} (p : out ≡ row r) where
       let z : i - 0 ≡ i = omega arith in
       put (e ∙ (rw (f, g, h, z) refl)) p
 
-  pub refusal-put : (n len : ℕ) {b text : List ℕ} {k : ℕ} → b ≡ zeros len → Put b text 0 k (title n) → r ≡ reply (written_told (Bytes k)) → RefusalCall n len text out
+  pub refusal-put : (n len : ℕ) {b text : List ℕ} {k : ℕ} → b ≡ zeros len → Put b text 0 k (title n) → r ≡ reply (written_told (Ok k)) → RefusalCall n len text out
   refusal-put n len {b} {text} {k} z h e = record { size = k; put = rw z at h; told = put e p }
 
   pub line-put : {n m : R.Line} → n ≡ m → r ≡ reply (line_told n) → out ≡ numbers (line_told m)
@@ -87,7 +85,7 @@ module _ {r : Reply} {out : List ℕ} (p : out ≡ row r) where
   assembled-put l e = answer-put l.answer e
 
   module _ {c : Counts} {b : Buffers} where
-    pub write-put : {rule : ℕ → Object → Outcome (List ℕ)} {len : ℕ} {x : List ℕ} {l : Written} → Writes rule c b len l x → r ≡ reply (written_told l) → WriteCall rule c b len x out
+    pub write-put : {rule : ℕ → Object → Outcome (List ℕ)} {len : ℕ} {x : List ℕ} {l : Result ℕ ℕ} → Writes rule c b len l x → r ≡ reply (written_told l) → WriteCall rule c b len x out
     write-put {l = l} q e = record { written = l; called = q; told = put e p }
 
     pub lookup-put : {m : List ℕ} (s : Result (O.Option Label) ObjectErr) → OfObject c b (ok (lookup_label (view c b) m)) (said s) → r ≡ reply (said_told (said s)) → LookupCall c b m out

@@ -13,7 +13,6 @@ use Rattle.rules.specs.Listing.{list}
 use Rattle.rules.specs.Stored.{store}
 use Rattle.link.specs.Call.{Outcomes}
 use Rattle.object_answer.specs.Writes.{Writes, one_answer, one_buffer}
-use Rattle.object_answer.specs.declared.Written.{Written}
 use Rattle.object_lookup.specs.Told.{Reversed}
 use Rattle.std.specs.declared.result.Result.{Result}
 use Rattle.std.specs.declared.option.Option as O
@@ -49,7 +48,7 @@ pub record LinkCall (c : Counts) (b : Buffers) (d : Counts) (e out out' : Buffer
 
 -- what a rule writes of an object, its bytes in `text` of `len` bytes, zeros after them
 pub record WriteCall (rule : ℕ → Object → Outcome (List ℕ)) (c : Counts) (b : Buffers) (len : ℕ) (text out : List ℕ) : Type 0 where
-  pub written : Written
+  pub written : Result ℕ ℕ
   pub called : Writes rule c b len written text
   pub told : out ≡ numbers (written_told written)
 
@@ -87,7 +86,7 @@ refusal-call-once p q =
 
 module _ {c : Counts} {b : Buffers} where
   pub write-call-once : {rule : ℕ → Object → Outcome (List ℕ)} {len : ℕ} {x y out also : List ℕ} → WriteCall rule c b len x out → WriteCall rule c b len y also → out ≡ also
-  write-call-once p q = p.told ∙ (ap (λ (r : Written). numbers (written_told r)) (one_answer p.called q.called) ∙ sym q.told)
+  write-call-once p q = p.told ∙ (ap (λ (r : Result ℕ ℕ). numbers (written_told r)) (one_answer p.called q.called) ∙ sym q.told)
 
   pub write-text-once : {rule : ℕ → Object → Outcome (List ℕ)} {len : ℕ} {x y out also : List ℕ} → WriteCall rule c b len x out → WriteCall rule c b len y also → x ≡ y
   write-text-once p q = one_buffer p.called q.called

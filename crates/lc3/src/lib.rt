@@ -16,7 +16,6 @@ ghost use Rattle.lc3_answers.specs.Told.{four, next_told, line_told};
 ghost use Rattle.lc3.specs.Calls.{checked, place_told, RefusalCall, LinkCall, ListCall, StoreCall, LookupCall, RevLookupCall};
 
 use object::Counts;
-use object_answer::Written;
 
 // The next token from `at` on: its place, its sort and its value; or its refusal.
 #[unsafe(no_mangle)]
@@ -63,7 +62,7 @@ pub extern "C" fn lc3_refusal(number: u16, text: &mut [u8], out: &mut [u64; 9])
 {
     base_buffers::clear(text, 0);
     let n = view_refusal::put_title(text, 0, number);
-    lc3_answers::put_answer(out, lc3_answers::told_written(Written::Bytes(n)));
+    lc3_answers::put_answer(out, lc3_answers::told_written(Ok(n)));
 }
 
 // Any source to an object in the lent buffers: the counts of blocks, words, labels and relocations; or one refusal, and every buffer zero.

@@ -14,8 +14,6 @@ use Rattle.lex_token.specs.declared.Next.{Next}
 use Rattle.lex_token.specs.declared.Next.TheVariants as next
 use Rattle.lex_token.specs.declared.Lexeme.{Lexeme}
 use Rattle.lex_token.specs.Flat.{lexeme, fault_sort, flat_token}
-use Rattle.object_answer.specs.declared.Written.{Written}
-use Rattle.object_answer.specs.declared.Written.TheVariants.{Bytes, Refused}
 use Rattle.std.specs.declared.option.Option as O
 use Rattle.std.specs.declared.option.Option.TheVariants.{Some, None}
 use Rattle.object_check.specs.declared.ObjectErr.{ObjectErr}
@@ -73,9 +71,9 @@ statements_told (Ok u) = counted 0 0 0 0
 statements_told (Err f) = refused_at f.number (span f.start f.end)
 
 -- a listing or a stored object: how many bytes
-abbrev pub written_told : Written → Answer
-written_told (Bytes n) = counted n 0 0 0
-written_told (Refused n) = refused_at n nowhere
+abbrev pub written_told : Result ℕ ℕ → Answer
+written_told (Ok n) = counted n 0 0 0
+written_told (Err n) = refused_at n nowhere
 
 -- a name: found, external, its address
 abbrev pub said_told : Outcome (Option Lab) → Answer

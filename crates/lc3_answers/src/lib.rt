@@ -15,7 +15,7 @@ use isa::disassembly::Line;
 use isa::{AsmInstr, ImmOrReg};
 use lex_token::{FAULT, Lexeme};
 use object::Label;
-use object_answer::{Answer, Written};
+use object_answer::Answer;
 use object_check::ObjectErr;
 
 #[derive(Clone, Copy)]
@@ -129,12 +129,12 @@ pub fn told_statements(statements: Result<(), Fault>) -> Reply
 }
 
 // The answer of writing bytes: a listing, a stored object.
-pub fn told_written(written: Written) -> Reply
+pub fn told_written(written: Result<usize, u16>) -> Reply
     ensures { result ≡ reply (written_told written) }
 {
     match written {
-        Written::Bytes(n) => accepted(n as u64, 0, 0, 0),
-        Written::Refused(number) => refused(u64::from(number), 0, 0),
+        Ok(n) => accepted(n as u64, 0, 0, 0),
+        Err(number) => refused(u64::from(number), 0, 0),
     }
 }
 

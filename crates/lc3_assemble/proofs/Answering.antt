@@ -18,8 +18,6 @@ use Rattle.rules.specs.Stored.{stored, store}
 use Rattle.laws_numbers.proofs.Bounds.{known-within}
 use Rattle.laws_numbers.proofs.Passes.{assembling-numbered}
 use Rattle.object_answer.specs.declared.Answer.{Answer}
-use Rattle.object_answer.specs.declared.Written.{Written}
-use Rattle.object_answer.specs.declared.Written.TheVariants as W
 use Rattle.object_answer.specs.Meant.{refusing, Leaves}
 use Rattle.object_answer.specs.Writes as Writes
 use Rattle.asm.specs.Call as Call
@@ -29,10 +27,10 @@ use Rattle.stored.proofs.Made.{lending, lending-long, Makes, made-whole}
 use Rattle.lc3_assemble.specs.Assembled.{assemble_stored, refusal_of, coded, object_of, answered, Told}
 
 -- what was written, or a refusal
-pub answer-bytes : (a : Answer) (w : Written) (n : ℕ) → w ≡ W.Bytes n → Ok n ≡ answered a w
+pub answer-bytes : (a : Answer) (w : Result ℕ ℕ) (n : ℕ) → w ≡ Ok n → Ok n ≡ answered a w
 answer-bytes a w n e = rw e
 
-pub answer-refused : (a : Answer) (w : Written) (n : ℕ) (r : Answer) → w ≡ W.Refused n → r ≡ refusing n a.start a.end a.start2 a.end2 → Err r ≡ answered a w
+pub answer-refused : (a : Answer) (w : Result ℕ ℕ) (n : ℕ) (r : Answer) → w ≡ Err n → r ≡ refusing n a.start a.end a.start2 a.end2 → Err r ≡ answered a w
 answer-refused a w n r e f = rw e (ap Err f)
 
 module _ (s ws ms : List ℕ) (a : Answer) (b : Buffers) (l : Call.Assembled (lending ws ms) s a b) where
@@ -57,11 +55,11 @@ module _ (s ws ms : List ℕ) (a : Answer) (b : Buffers) (l : Call.Assembled (le
       }
 
   -- THE ANSWER has the places of the call's, which are none where it accepts
-  accepted-places : (x : Object) (n : ℕ) → Leaves (ok x) (lending ws ms) a b → answered a (W.Refused n) ≡ Err (refusing n 0 0 0 0)
+  accepted-places : (x : Object) (n : ℕ) → Leaves (ok x) (lending ws ms) a b → answered a (Err n) ≡ Err (refusing n 0 0 0 0)
   unfolding answer
   accepted-places x n t = λ i. Err (refusing n (t.answer i).first.start (t.answer i).first.stop (t.answer i).second.start (t.answer i).second.stop)
 
-  refused-places : (q : Refusal) → Leaves (refused q) (lending ws ms) a b → answered a (W.Refused q.number) ≡ Err (refusal_of q)
+  refused-places : (q : Refusal) → Leaves (refused q) (lending ws ms) a b → answered a (Err q.number) ≡ Err (refusal_of q)
   unfolding answer
   refused-places q t = λ i. Err (refusing q.number (t.answer i).first.start (t.answer i).first.stop (t.answer i).second.start (t.answer i).second.stop)
 
@@ -86,7 +84,7 @@ module _ (s ws ms : List ℕ) (a : Answer) (b : Buffers) (l : Call.Assembled (le
     marks-left (ok x) t = ap (λ (d : Buffers). d.marks) t.buffers
     marks-left (refused q) t = ap (λ (d : Buffers). d.marks) t.buffers
 
-    pub stored-told : (w : Written) (bytes : List ℕ) → MadeStored a b len w bytes → (r : Result ℕ Answer) → r ≡ answered a w → Told s ws ms len r b.words b.marks bytes
+    pub stored-told : (w : Result ℕ ℕ) (bytes : List ℕ) → MadeStored a b len w bytes → (r : Result ℕ Answer) → r ≡ answered a w → Told s ws ms len r b.words b.marks bytes
     unfolding assemble_stored
     stored-told w bytes m r e =
         let o = assemble (lent_words ws ms) s in

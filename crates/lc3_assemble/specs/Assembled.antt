@@ -10,8 +10,6 @@ use Rattle.rules.specs.Calls.{left_bytes}
 use Rattle.rules.specs.Passes.{assemble}
 use Rattle.rules.specs.Stored.{store}
 use Rattle.object_answer.specs.declared.Answer.{Answer}
-use Rattle.object_answer.specs.declared.Written.{Written}
-use Rattle.object_answer.specs.declared.Written.TheVariants as W
 use Rattle.object_answer.specs.Meant.{refusing}
 
 -- a source's object, with so many words lent, stored in so many bytes: what assembling refuses, then 51
@@ -50,6 +48,6 @@ module _ {s ws ms : List ℕ} {len : ℕ} {r t : Result ℕ Answer} {w v m n b c
   one_bytes = p.holds ∙ sym q.holds
 
 -- INNER FUNCTIONS: what was written, or the refusal at the places of the call's answer
-abbrev pub answered : Answer → Written → Result ℕ Answer
-answered a (W.Bytes n) = Ok n
-answered a (W.Refused n) = Err (refusing n a.start a.end a.start2 a.end2)
+abbrev pub answered : Answer → Result ℕ ℕ → Result ℕ Answer
+answered a (Ok n) = Ok n
+answered a (Err n) = Err (refusing n a.start a.end a.start2 a.end2)

@@ -4,15 +4,15 @@
 ghost use Rattle.std.specs.Prelude.{◌≡◌, length};
 ghost use Rattle.lc3_assemble.specs.Assembled.{answered, Told};
 
-use object_answer::{Answer, Written};
+use object_answer::Answer;
 
 // So many stored bytes, or the answer of the refusal at its places; 51 has none.
-fn answer_of(answer: Answer, written: Written) -> Result<usize, Answer>
+fn answer_of(answer: Answer, written: Result<usize, u16>) -> Result<usize, Answer>
     ensures { result ≡ answered answer written }
 {
     match written {
-        Written::Bytes(size) => Ok(size),
-        Written::Refused(number) => Err(object_answer::refusal(
+        Ok(size) => Ok(size),
+        Err(number) => Err(object_answer::refusal(
             number,
             answer.start,
             answer.end,

@@ -1,4 +1,6 @@
 -- What the functions of `lc3_link` answer and leave, by what comes of the link. Assumes nothing.
+use Rattle.std.specs.declared.result.Result.{Result}
+use Rattle.std.specs.declared.result.Result.TheVariants.{Ok, Err}
 use Prim.Native.Nat.{ℕ, zero, suc, ◌-◌}
 use mathlib.Core.Path.{◌≡◌, sym, ◌∙◌, ap}
 use mathlib.Core.List.{List, [], ◌∷◌}
@@ -17,8 +19,6 @@ use Rattle.laws_stored.specs.Offsets.{part_at}
 use Rattle.object.specs.Meaning.{counts}
 use Rattle.object.specs.declared.Counts as code
 use Rattle.object_answer.specs.declared.Answer.{Answer}
-use Rattle.object_answer.specs.declared.Written.{Written}
-use Rattle.object_answer.specs.declared.Written.TheVariants.{Bytes, Refused}
 use Rattle.object_answer.specs.Meant.{counts_in}
 use Rattle.object_answer.specs.Writes.{Whole}
 use Rattle.link.specs.Call as Call
@@ -42,29 +42,29 @@ module _ (a : Answer) (ls ns : List ℕ) where
   none-blamed name n = rw (ne_eqb a.number 25 n) (put-none name 0)
 
 -- AN ANSWER
-pub answer-bytes : (w : Written) (n named : ℕ) → w ≡ Bytes n → ◌≡◌ {A = Linked} (record { number = 0; size = n; named = named }) (linked_of w named)
+pub answer-bytes : (w : Result ℕ ℕ) (n named : ℕ) → w ≡ Ok n → ◌≡◌ {A = Linked} (record { number = 0; size = n; named = named }) (linked_of w named)
 answer-bytes w n named e = rw e
 
-pub answer-refused : (w : Written) (n named : ℕ) → w ≡ Refused n → ◌≡◌ {A = Linked} (record { number = n; size = 0; named = named }) (linked_of w named)
+pub answer-refused : (w : Result ℕ ℕ) (n named : ℕ) → w ≡ Err n → ◌≡◌ {A = Linked} (record { number = n; size = 0; named = named }) (linked_of w named)
 answer-refused w n named e = rw e
 
 module _ (len : ℕ) (name₀ : List ℕ) (r : Linked) (bytes name : List ℕ) where
-  whole-told : (o : Outcome (List ℕ)) (n : Name) (w : Written) (named : ℕ) → Whole o len w bytes → Put name₀ name 0 named n → r ≡ linked_of w named → Told (comes o n) len name₀ r bytes name
+  whole-told : (o : Outcome (List ℕ)) (n : Name) (w : Result ℕ ℕ) (named : ℕ) → Whole o len w bytes → Put name₀ name 0 named n → r ≡ linked_of w named → Told (comes o n) len name₀ r bytes name
   whole-told (ok l) n w named h p e =
-      let f = e ∙ ap (λ (v : Written). linked_of v named) h.answer in
+      let f = e ∙ ap (λ (v : Result ℕ ℕ). linked_of v named) h.answer in
       record { number = ap (λ (x : Linked). x.number) f; size = ap (λ (x : Linked). x.size) f; holds = h.buffer; blames = rw (ap (λ (x : Linked). x.named) f) p }
   whole-told (refused q) n w named h p e =
-      let f = e ∙ ap (λ (v : Written). linked_of v named) h.answer in
+      let f = e ∙ ap (λ (v : Result ℕ ℕ). linked_of v named) h.answer in
       record { number = ap (λ (x : Linked). x.number) f; size = ap (λ (x : Linked). x.size) f; holds = h.buffer; blames = rw (ap (λ (x : Linked). x.named) f) p }
 
-refused-told : (len : ℕ) (name : List ℕ) (r : Linked) (bytes : List ℕ) (q : Refusal) (n : ℕ) → n ≡ q.number → bytes ≡ zeros len → r ≡ linked_of (Refused n) 0 → Told (comes (refused q) []) len name r bytes name
+refused-told : (len : ℕ) (name : List ℕ) (r : Linked) (bytes : List ℕ) (q : Refusal) (n : ℕ) → n ≡ q.number → bytes ≡ zeros len → r ≡ linked_of (Err n) 0 → Told (comes (refused q) []) len name r bytes name
 refused-told len name r bytes q n k z e =
-    whole-told len name r bytes name (refused q) [] (Refused n) 0 (record { answer = ap Refused k; buffer = z ∙ sym (lay-nil len) }) (put-none name 0) e
+    whole-told len name r bytes name (refused q) [] (Err n) 0 (record { answer = ap Err k; buffer = z ∙ sym (lay-nil len) }) (put-none name 0) e
 
 -- TWO OBJECTS
 pub objects-told :
     (c : Counts) (b : Buffers) (d : Counts) (e : Buffers) → Held c b → Held d e → (a : Answer) (x : Buffers) → Call.Linked c b d e lent a x
-    → (name₀ name : List ℕ) (named : ℕ) → Put name₀ name 0 named (blamed_row a b.labels b.names) → (len : ℕ) (w : Written) (bytes : List ℕ) → MadeStored a x len w bytes
+    → (name₀ name : List ℕ) (named : ℕ) → Put name₀ name 0 named (blamed_row a b.labels b.names) → (len : ℕ) (w : Result ℕ ℕ) (bytes : List ℕ) → MadeStored a x len w bytes
     → (r : Linked) → r ≡ linked_of w named → Told (link_objects len (view c b) (view d e)) len name₀ r bytes name
 unfolding link_objects
 objects-told c b d e H K a x L name₀ name named p len w bytes s r f =
@@ -94,7 +94,7 @@ module _ (s : List ℕ) (v : AreBytes s) (a : Answer) (b : Buffers) (l : Loaded 
     unfolding link_stored link_first
     first-told len u name₀ r bytes name t = rw loaded-is t
 
-  module _ (n : a.number ≡ 0 → ⊥) (len : ℕ) (name : List ℕ) (r : Linked) (bytes : List ℕ) (c : bytes ≡ zeros len) (e : r ≡ linked_of (Refused a.number) 0) where
+  module _ (n : a.number ≡ 0 → ⊥) (len : ℕ) (name : List ℕ) (r : Linked) (bytes : List ℕ) (c : bytes ≡ zeros len) (e : r ≡ linked_of (Err a.number) 0) where
     pub second-refused : (x : Object) → Told (link_second len x (load word_room s)) len name r bytes name
     unfolding link_second
     second-refused x =
@@ -133,6 +133,6 @@ module _ (t : List ℕ) (n : ℕ) (v : AreBytes t) (s : List ℕ) (p : s ≡ par
         → Told (link_stored len (part_at t 0 n) u) len name₀ r bytes name
     part-told = first-told (part_at t 0 n) (part_bytes n t v) a b part-loaded z k f
 
-  module _ (m : a.number ≡ 0 → ⊥) (len : ℕ) (name : List ℕ) (r : Linked) (bytes : List ℕ) (c : bytes ≡ zeros len) (e : r ≡ linked_of (Refused a.number) 0) where
+  module _ (m : a.number ≡ 0 → ⊥) (len : ℕ) (name : List ℕ) (r : Linked) (bytes : List ℕ) (c : bytes ≡ zeros len) (e : r ≡ linked_of (Err a.number) 0) where
     pub part-refused : (u : List ℕ) → Told (link_stored len (part_at t 0 n) u) len name r bytes name
     part-refused = first-refused (part_at t 0 n) (part_bytes n t v) a b part-loaded m len name r bytes c e

@@ -1,4 +1,6 @@
 -- Two stored objects linked, as bytes: what comes of it, and what is left in the lent buffers. Assumes nothing.
+use Rattle.std.specs.declared.result.Result.{Result}
+use Rattle.std.specs.declared.result.Result.TheVariants.{Ok, Err}
 use Rattle.std.specs.Prelude.{ℕ, zero, suc, ◌≡◌, false, List, [], ◌∷◌, eqb, length}
 use Rattle.std.proofs.Common.{sym, ◌∙◌}
 use Rattle.rules.specs.Base.{when◌then◌else◌, Outcome, ok, refused, ◌>>=◌}
@@ -10,8 +12,6 @@ use Rattle.rules.specs.Calls.{bytes_of, left_bytes}
 use Rattle.rules.specs.Linking.{link}
 use Rattle.rules.specs.Stored.{stored, store, check, load}
 use Rattle.object_answer.specs.declared.Answer.{Answer}
-use Rattle.object_answer.specs.declared.Written.{Written}
-use Rattle.object_answer.specs.declared.Written.TheVariants.{Bytes, Refused}
 use Rattle.view_text.specs.Put.{Put}
 use Rattle.lc3_link.specs.declared.Linked.{Linked}
 
@@ -51,9 +51,9 @@ unfoldable pub link_stored : ℕ → List ℕ → List ℕ → Comes
 link_stored len first second = link_first len (load word_room first) (load word_room second)
 
 -- WHAT IS ANSWERED: number 0 and how many bytes, or the refusal's number and 0; how long the name is, as far as it fits
-abbrev pub linked_of : Written → ℕ → Linked
-linked_of (Bytes n) named = record { number = 0; size = n; named = named }
-linked_of (Refused n) named = record { number = n; size = 0; named = named }
+abbrev pub linked_of : Result ℕ ℕ → ℕ → Linked
+linked_of (Ok n) named = record { number = 0; size = n; named = named }
+linked_of (Err n) named = record { number = n; size = 0; named = named }
 
 abbrev pub number_of : Outcome (List ℕ) → ℕ
 number_of (ok l) = 0

@@ -13,7 +13,7 @@ ghost use Rattle.lc3_link.specs.Linked.{link_objects, link_second, link_stored, 
 use base_capacities::WORDS;
 use base_refusals::OVERLAPPING_LABELS;
 use object::Counts;
-use object_answer::{Answer, Written, counts_of};
+use object_answer::{Answer, counts_of};
 use view_text::put;
 
 // What a link of two objects gives: its number, how many bytes the result has, and how long the name is that stands in the way.
@@ -24,16 +24,16 @@ pub struct Linked {
     pub named: usize,
 }
 
-fn answer_of(written: Written, named: usize) -> Linked
+fn answer_of(written: Result<usize, u16>, named: usize) -> Linked
     ensures { result ≡ linked_of written named }
 {
     match written {
-        Written::Bytes(size) => Linked {
+        Ok(size) => Linked {
             number: 0,
             size,
             named,
         },
-        Written::Refused(number) => Linked {
+        Err(number) => Linked {
             number,
             size: 0,
             named,
@@ -170,7 +170,7 @@ fn link_second(
         );
     }
     base_buffers::clear(bytes, 0);
-    answer_of(Written::Refused(loaded.number), 0)
+    answer_of(Err(loaded.number), 0)
 }
 
 // Links the object stored in the first bytes to the one stored in the second; the result is stored where the first was. Where a name stands in the way it is put at the front of `name`.
@@ -208,5 +208,5 @@ pub fn link_stored(bytes: &mut [u8], size: usize, second: &[u8], name: &mut [u8]
         );
     }
     base_buffers::clear(bytes, 0);
-    answer_of(Written::Refused(answer.number), 0)
+    answer_of(Err(answer.number), 0)
 }

@@ -10,7 +10,6 @@ ghost use Rattle.list.specs.Call.{WrittenOf, Called};
 use base_refusals::{BAD_OBJECT, NO_WRITE_ROOM, SHORT_BUFFER};
 use list_lines::{BLOCK_LINE_BYTES, WORD_LINE_BYTES};
 use object::Counts;
-use object_answer::Written;
 use object_check::ObjectErr;
 
 // How long the listing of a valid object is.
@@ -43,14 +42,14 @@ fn list_object(
     relocations: &[u32],
     names: &[u8],
     out: &mut [u8],
-) -> Written
+) -> Result<usize, u16>
     requires valid { Valid (counts c) (six blocks.now words.now marks.now labels.now relocations.now names.now) }
     requires out_value { out.old ≡ zeros (length out.old) }
     ensures { WrittenOf (view (counts c) (six blocks.now words.now marks.now labels.now relocations.now names.now)) (length out.old) result out.new }
 {
     let size = listing_size(c, labels, relocations, names, blocks, words, marks);
     if out.len() < size {
-        return Written::Refused(NO_WRITE_ROOM);
+        return Err(NO_WRITE_ROOM);
     }
     let b = c.blocks;
     let w = c.words;
@@ -59,7 +58,7 @@ fn list_object(
     let first = list_sections::put_blocks(out, 0, blocks, b, words, marks, w);
     let second = list_sections::put_labels(out, first, labels, names, l);
     let end = list_sections::put_relocations(out, second, relocations, labels, names, n);
-    Written::Bytes(end)
+    Ok(end)
 }
 
 // The listing of a lent object.
@@ -72,13 +71,13 @@ pub fn list(
     relocations: &[u32],
     names: &[u8],
     out: &mut [u8],
-) -> Written
+) -> Result<usize, u16>
     ensures { Called (counts c) (six blocks.now words.now marks.now labels.now relocations.now names.now) (length out.old) result out.new }
 {
     base_buffers::clear(out, 0);
     match object_check::check_object(c, blocks, words, marks, labels, relocations, names) {
         Ok(()) => list_object(c, blocks, words, marks, labels, relocations, names, out),
-        Err(ObjectErr::ShortBuffer) => Written::Refused(SHORT_BUFFER),
-        Err(ObjectErr::BadObject) => Written::Refused(BAD_OBJECT),
+        Err(ObjectErr::ShortBuffer) => Err(SHORT_BUFFER),
+        Err(ObjectErr::BadObject) => Err(BAD_OBJECT),
     }
 }

@@ -1,4 +1,6 @@
 -- A listing that fits is written whole; an answer tells its object or its refusal. Assumes nothing.
+use Rattle.std.specs.declared.result.Result.{Result}
+use Rattle.std.specs.declared.result.Result.TheVariants.{Ok, Err}
 use Prim.Native.Nat.{ℕ, ◌≤◌}
 use mathlib.Core.Path.{◌≡◌, sym, ◌∙◌, ap, subst}
 use mathlib.Core.Bool.{false}
@@ -17,15 +19,13 @@ use Rattle.rules.proofs.Rows.{length-lay}
 use Rattle.object_answer.specs.declared.Answer.{Answer}
 use Rattle.object_answer.specs.Meant.{counts_in}
 use Rattle.object_answer.specs.Writes.{Whole}
-use Rattle.object_answer.specs.declared.Written.{Written}
-use Rattle.object_answer.specs.declared.Written.TheVariants.{Bytes, Refused}
 use Rattle.list.specs.Call.{Called}
 use Rattle.object.specs.Meaning.{counts}
 use Rattle.object.specs.declared.Counts as code
 use Rattle.list_print.specs.Program.{Wrote, tells, Tellable}
 
 -- A LISTING THAT FITS
-module _ (c : Counts) (b : Buffers) (len : ℕ) (v : Valid c b) (s : short b ≡ false) (f : length (listing (view c b)) ≤ len) (r : Written) (out : List ℕ) (h : Called c b len r out) where
+module _ (c : Counts) (b : Buffers) (len : ℕ) (v : Valid c b) (s : short b ≡ false) (f : length (listing (view c b)) ≤ len) (r : Result ℕ ℕ) (out : List ℕ) (h : Called c b len r out) where
   lists : list len (view c b) ≡ ok (listing (view c b))
   unfolding list
   lists = rw (le-leb (length (listing (view c b))) len f)
@@ -38,18 +38,18 @@ module _ (c : Counts) (b : Buffers) (len : ℕ) (v : Valid c b) (s : short b ≡
   whole_is : Whole (ok (listing (view c b))) len r out
   whole_is = rw (outcome-is h.outcome h.lent) at h.whole
 
-  pub object-bytes : (n : ℕ) → r ≡ Bytes n → Wrote (listing (view c b)) len n out
+  pub object-bytes : (n : ℕ) → r ≡ Ok n → Wrote (listing (view c b)) len n out
   object-bytes n e =
       let w = whole_is in
-      let a : r ≡ Bytes (length (listing (view c b))) = w.answer in
+      let a : r ≡ Ok (length (listing (view c b))) = w.answer in
       let k : n ≡ length (listing (view c b)) = cc in
       let m : length out ≡ len = ap length w.buffer ∙ length-lay (listing (view c b)) len f in
       record { count = k; here = w.buffer; room = omega (arith, k, m, f) }
 
-  pub object-refused : (n k : ℕ) → r ≡ Refused n → Wrote (listing (view c b)) len k out
+  pub object-refused : (n k : ℕ) → r ≡ Err n → Wrote (listing (view c b)) len k out
   object-refused n k e =
       let w = whole_is in
-      let a : r ≡ Bytes (length (listing (view c b))) = w.answer in
+      let a : r ≡ Ok (length (listing (view c b))) = w.answer in
       never cc
 
 -- AN ANSWER

@@ -14,7 +14,7 @@ use base_refusals::SOURCE_TOO_LONG;
 use list_lines::{BLOCK_LINE_BYTES, WORD_LINE_BYTES};
 use list_sections::{LABEL_LINE_REST, RELOCATION_LINE_REST};
 use object::Counts;
-use object_answer::{Answer, Written};
+use object_answer::Answer;
 
 // How many bytes of source and how many words the program has room for.
 pub const SOURCE_BYTES: usize = 65536;
@@ -78,8 +78,8 @@ fn write_object(
     ensures { Wrote (listing (view (counts c) (six blocks.now words.now marks.now labels.now relocations.now names.now))) (length text.old) result text.new }
 {
     match list::list(c, blocks, words, marks, labels, relocations, names, text) {
-        Written::Bytes(n) => n,
-        Written::Refused(_) => 0,
+        Ok(n) => n,
+        Err(_) => 0,
     }
 }
 

@@ -1,4 +1,5 @@
 -- What the halving search of a name among label rows keeps. Assumes nothing.
+use Rattle.std.specs.declared.result.Result.TheVariants.{Ok}
 use mathlib.Core.Path.{◌≡◌}
 use mathlib.Core.List.{List}
 use Prim.Native.Nat.{ℕ, ◌+◌, ◌-◌, ◌/◌, ◌≤◌, ◌<◌}
@@ -12,7 +13,6 @@ use Rattle.base_text.specs.Names.{ordered}
 use Rattle.std.specs.declared.cmp.Ordering.{Ordering}
 use Rattle.std.specs.declared.cmp.Ordering.TheVariants.{Less, Equal, Greater}
 use Rattle.object.specs.Slots.{upper_name, upper_row, Rising, Slotted}
-use Rattle.object.specs.declared.Slot.TheVariants.{Taken}
 use Rattle.object.proofs.Order.{is-less, is_same, is_greater}
 
 -- the rows below lo come before x, and those from hi on after it
@@ -50,7 +50,7 @@ module _ {ls ns : List ℕ} {n lo hi : ℕ} {x : Name} {r : Ordering} (v : Risin
   pub slot-down : r ≡ Greater → Halving ls ns n x lo (lo + (hi - lo) / 2)
   slot-down q = halving ls ns n x (halved-down _ _ (sides ls ns n x v) (halved ls ns n x t) l (is_greater (upper_name ls ns (lo + (hi - lo) / 2)) x e q))
 
-  pub slot-hit : r ≡ Equal → Slotted ls ns n x (Taken (lo + (hi - lo) / 2))
+  pub slot-hit : r ≡ Equal → Slotted ls ns n x (Ok (lo + (hi - lo) / 2))
   slot-hit q = record {
     taken = λ k p. (let w : lo + (hi - lo) / 2 ≡ k = cc in (omega (arith, t.within), rw w at (is_same (upper_name ls ns (lo + (hi - lo) / 2)) x e q)));
     within = λ p z. (never cc);

@@ -1,4 +1,6 @@
 -- Two answers that a contract of this crate allows are equal. Assumes nothing.
+use Rattle.std.specs.declared.result.Result.{Result}
+use Rattle.std.specs.declared.result.Result.TheVariants.{Ok, Err}
 use mathlib.Core.Path.{◌≡◌, refl, sym, ◌∙◌, ap}
 use mathlib.Core.List.{List}
 use Prim.Native.Nat.{ℕ, ◌<◌}
@@ -13,8 +15,6 @@ use Rattle.object.specs.Meaning.{lab}
 use Rattle.object.specs.Slots.{upper_name, upper_row, Rising, Slotted}
 use Rattle.object.specs.declared.Label.{Label}
 use Rattle.object.specs.declared.Label.TheVariants.{Defined, External}
-use Rattle.object.specs.declared.Slot.{Slot}
-use Rattle.object.specs.declared.Slot.TheVariants.{Taken, Free}
 
 -- of `label_at`
 pub label-once : (r s : Label) → lab r ≡ lab s → r ≡ s
@@ -35,24 +35,24 @@ module _ {ls ns : List ℕ} {n : ℕ} {x : Name} (v : Rising ls ns n) where
   ]
 
   -- a row with the name, and a place where it belongs
-  not-both : (k p : ℕ) {r : Slot} → k < n → upper_name ls ns k ≡ x → Slotted ls ns n x r → r ≡ Free p → ⊥
+  not-both : (k p : ℕ) {r : Result ℕ ℕ} → k < n → upper_name ls ns k ≡ x → Slotted ls ns n x r → r ≡ Err p → ⊥
   not-both k p l e t q = elim (dec_lt k p) [
     | yes h ↦ before_irr x (rw e at (t.below p q k h))
     | no h ↦ before_irr x (rw e at (t.above p q k (omega arith) l))
   ]
 
   -- two places where it belongs
-  ordered : (p q : ℕ) {r s : Slot} → p < q → Slotted ls ns n x r → r ≡ Free p → Slotted ls ns n x s → s ≡ Free q → ⊥
+  ordered : (p q : ℕ) {r s : Result ℕ ℕ} → p < q → Slotted ls ns n x r → r ≡ Err p → Slotted ls ns n x s → s ≡ Err q → ⊥
   ordered p q h t e u f =
       let l : p < n = omega (arith, u.within q f) in
       before_irr x (before_trans x (upper_name ls ns p) x (t.above p e p (omega arith) l) (u.below q f p h))
 
   -- of `slot_of`
-  pub slot-once : (r s : Slot) → Slotted ls ns n x r → Slotted ls ns n x s → r ≡ s
-  slot-once (Taken k) (Taken j) t u = let a = t.taken k refl in let b = u.taken j refl in ap Taken (same_row k j a.0 b.0 a.1 b.1)
-  slot-once (Taken k) (Free q) t u = let a = t.taken k refl in absurd (not-both k q a.0 a.1 u refl)
-  slot-once (Free p) (Taken j) t u = let b = u.taken j refl in absurd (not-both j p b.0 b.1 t refl)
-  slot-once (Free p) (Free q) t u = ap Free (elim (dec_lt p q) [
+  pub slot-once : (r s : Result ℕ ℕ) → Slotted ls ns n x r → Slotted ls ns n x s → r ≡ s
+  slot-once (Ok k) (Ok j) t u = let a = t.taken k refl in let b = u.taken j refl in ap Ok (same_row k j a.0 b.0 a.1 b.1)
+  slot-once (Ok k) (Err q) t u = let a = t.taken k refl in absurd (not-both k q a.0 a.1 u refl)
+  slot-once (Err p) (Ok j) t u = let b = u.taken j refl in absurd (not-both j p b.0 b.1 t refl)
+  slot-once (Err p) (Err q) t u = ap Err (elim (dec_lt p q) [
     | yes h ↦ absurd (ordered p q h t refl u refl)
     | no h ↦ elim (dec_lt q p) [ yes m ↦ absurd (ordered q p m u refl t refl) | no m ↦ omega arith ]
   ])

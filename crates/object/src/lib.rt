@@ -39,13 +39,6 @@ pub enum Label {
     External,
 }
 
-// Where a name stands among label rows, or the row where it belongs.
-#[derive(Clone, Copy)]
-pub enum Slot {
-    Taken(usize),
-    Free(usize),
-}
-
 // 42: a table or the name buffer is shorter than full capacities need.
 pub fn is_short(
     blocks: &[u16],
@@ -120,8 +113,8 @@ pub fn compare_row(labels: &[u32], names: &[u8], k: usize, name: &[u8]) -> Order
     base_text::compare_names(label_name(labels, names, k), name)
 }
 
-// The row of a name among n rows that rise by name in upper case, by halving.
-pub fn slot_of(labels: &[u32], names: &[u8], n: usize, name: &[u8]) -> Slot
+// The row of a name among n rows that rise by name in upper case, or the row where it belongs, by halving.
+pub fn slot_of(labels: &[u32], names: &[u8], n: usize, name: &[u8]) -> Result<usize, usize>
     requires { Rising labels.now names.now n }
     ensures { Slotted labels.now names.now n (map upper name.now) result }
 {
@@ -138,9 +131,9 @@ pub fn slot_of(labels: &[u32], names: &[u8], n: usize, name: &[u8]) -> Slot
                 hi = mid;
             }
             Ordering::Equal => {
-                return Slot::Taken(mid);
+                return Ok(mid);
             }
         }
     }
-    Slot::Free(lo)
+    Err(lo)
 }

@@ -20,13 +20,6 @@ pub struct Answer {
     pub relocations: usize,
 }
 
-// What a call answers that writes an object as bytes: how many, or the number of the refusal, 42, 43 or 51. None of these has a place.
-#[derive(Clone, Copy)]
-pub enum Written {
-    Bytes(usize),
-    Refused(u16),
-}
-
 // The answer of a refusal.
 pub fn refusal(number: u16, start: usize, end: usize, start2: usize, end2: usize) -> Answer
     ensures { result ≡ refusing number start end start2 end2 }

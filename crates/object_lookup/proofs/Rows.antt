@@ -20,8 +20,6 @@ use Rattle.rules.proofs.Sound.{label-held}
 use Rattle.object.specs.Slots.{upper_name, Rising, Slotted}
 use Rattle.rules.specs.Calls.{OfObject}
 use Rattle.rules.proofs.Bools.{never}
-use Rattle.object.specs.declared.Slot.{Slot}
-use Rattle.object.specs.declared.Slot.TheVariants.{Taken, Free}
 use Rattle.object_check.specs.Checked.{outcome}
 use Rattle.object_check.proofs.Whole.{goes_on}
 use Rattle.std.specs.declared.result.Result.{Result}
@@ -49,17 +47,17 @@ rising {n} {ls} {ns} v = record {
   };
 }
 
-module _ {n : ℕ} {ls ns : List ℕ} {x : Name} {r : Slot} (v : LabelsOk n ls ns) (t : Slotted ls ns n x r) where
-  pub taken_in : {k : ℕ} → r ≡ Taken k → k * 4 + 4 ≤ length ls
+module _ {n : ℕ} {ls ns : List ℕ} {x : Name} {r : Result ℕ ℕ} (v : LabelsOk n ls ns) (t : Slotted ls ns n x r) where
+  pub taken_in : {k : ℕ} → r ≡ Ok k → k * 4 + 4 ≤ length ls
   taken_in {k} e = omega (arith, v.room, (t.taken k e).0)
 
-  pub said_row : {k : ℕ} (l : Label) → r ≡ Taken k → lab l ≡ lab_row ls k → said (Ok (Some l)) ≡ ok (look name_order (view_labels n ls ns) x)
+  pub said_row : {k : ℕ} (l : Label) → r ≡ Ok k → lab l ≡ lab_row ls k → said (Ok (Some l)) ≡ ok (look name_order (view_labels n ls ns) x)
   said_row {k} l e q =
       let u = t.taken k e in
       let m : name_row ls ns k ≡ x = sym (upper-as v k u.0) ∙ u.1 in
       ap (λ (y : Lab). ok (some y)) q ∙ ap ok (rw (← m) (sym (label-held n ls ns v k u.0)))
 
-  pub said-nothing : {p : ℕ} → r ≡ Free p → said (Ok None) ≡ ok (look name_order (view_labels n ls ns) x)
+  pub said-nothing : {p : ℕ} → r ≡ Err p → said (Ok None) ≡ ok (look name_order (view_labels n ls ns) x)
   unfolding view_labels
   said-nothing {p} e = ap ok (sym (look_none name_order n (label_row ls ns) x go))
     where

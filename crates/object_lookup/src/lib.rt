@@ -12,7 +12,7 @@ ghost use Rattle.object.specs.Meaning.{counts};
 ghost use Rattle.object_lookup.specs.Told.{said, Reached, Reversed};
 
 use base_capacities::LABEL_CELLS;
-use object::{Counts, Label, Slot};
+use object::{Counts, Label};
 use object_check::ObjectErr;
 
 // What n valid label rows say of a name.
@@ -21,8 +21,8 @@ fn say_name(labels: &[u32], names: &[u8], n: usize, name: &[u8]) -> Option<Label
     ensures { said (Ok result) ≡ ok (look name_order (view_labels n labels.now names.now) (map upper name.now)) }
 {
     match object::slot_of(labels, names, n, name) {
-        Slot::Taken(k) => Some(object::label_at(labels, k)),
-        Slot::Free(_) => None,
+        Ok(k) => Some(object::label_at(labels, k)),
+        Err(_) => None,
     }
 }
 

@@ -24,8 +24,8 @@ use Rattle.parse_labels.specs.declared.NextLabel.{NextLabel}
 use Rattle.parse_labels.specs.declared.NextLabel.TheVariants.{Label, Done}
 use Rattle.pass1_symbols.specs.Symbols.{symbols}
 use Rattle.pass1_symbols.specs.Adding.{named_at, outcome, Ready, Adding}
-use Rattle.pass1_symbols.specs.declared.Added.{Added}
-use Rattle.pass1_symbols.specs.declared.Added.TheVariants as added
+use Rattle.pass1_symbols.specs.declared.AddErr.{AddErr}
+use Rattle.pass1_symbols.specs.declared.AddErr.TheVariants as unadded
 use Rattle.pass1_labels.specs.Naming.{told, NamesReady, NameReady, NameAdded, NamesAdded}
 use Rattle.parse_labels.proofs.Texts.{name-stands}
 use Rattle.parse_labels.proofs.Before.{heads-on}
@@ -48,17 +48,17 @@ module _ (rs src : List ℕ) (n a f b e : ℕ) (v : NameReady rs src n a f b e) 
     name-same : named_at src s l ≡ name_between src b e
     name-same = let z : b + (e - b) ≡ e = omega (arith, v.rising) in rw (x, y, z)
 
-    module _ (rs' : List ℕ) (r : Added) (h : Adding rs src rs' n a f s l r) (st en : ℕ) where
+    module _ (rs' : List ℕ) (r : Result ℕ AddErr) (h : Adding rs src rs' n a f s l r) (st en : ℕ) where
       ruled : outcome rs src rs' s l (span st en) r ≡ add_label (lab_from a f) (span st en) (name_between src b e) (symbols n rs src)
       ruled = h.rule (span st en) ∙ ap (λ (m : Name). add_label (lab_from a f) (span st en) m (symbols n rs src)) name-same
 
-      pub name-held : (m : ℕ) → r ≡ added.Held m → NameAdded rs src rs' n a f b e (span st en) (Ok m)
+      pub name-held : (m : ℕ) → r ≡ Ok m → NameAdded rs src rs' n a f b e (span st en) (Ok m)
       name-held m q = record {
         rule = sym (ap (outcome rs src rs' s l (span st en)) q) ∙ ruled;
         table = λ k z. (let w : m ≡ k = cc in rw w at (h.table m q));
       }
 
-      pub name-full : r ≡ added.Full → NameAdded rs src rs' n a f b e (span st en) (Err (refusal_at 40 st en))
+      pub name-full : r ≡ Err unadded.Full → NameAdded rs src rs' n a f b e (span st en) (Err (refusal_at 40 st en))
       name-full q = record {
         rule = sym (ap (outcome rs src rs' s l (span st en)) q) ∙ ruled;
         table = λ m y. refused-no y;

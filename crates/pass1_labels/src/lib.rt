@@ -17,7 +17,7 @@ use base_capacities::{DEFINED, EXTERNAL};
 use base_refusals::Refusal;
 use parse_labels::NextLabel;
 use pass1_state::Pass1State;
-use pass1_symbols::Added;
+use pass1_symbols::AddErr;
 
 // A cell of row k.
 fn cell(rows: &[u32], k: usize, j: usize) -> u32
@@ -62,9 +62,9 @@ pub fn add_label(
     let first = from as u32;
     let size = (to - from) as u32;
     match pass1_symbols::add_symbol(rows, src, n, address, flag, first, size) {
-        Added::Held(m) => Ok(m),
-        Added::Clash(k) => clash(rows, k, from, to),
-        Added::Full => Err(Refusal {
+        Ok(m) => Ok(m),
+        Err(AddErr::Clash(k)) => clash(rows, k, from, to),
+        Err(AddErr::Full) => Err(Refusal {
             number: base_refusals::TABLE_FULL,
             start,
             end,

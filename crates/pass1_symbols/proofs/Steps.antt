@@ -1,4 +1,6 @@
 -- What each way through a search by keys and through `add_symbol` shows. Assumes nothing.
+use Rattle.std.specs.declared.result.Result.{Result}
+use Rattle.std.specs.declared.result.Result.TheVariants.{Ok, Err}
 use Rattle.std.specs.declared.option.Option.TheVariants.{Some, None}
 use mathlib.Core.Path.{◌≡◌, refl, sym, ◌∙◌, ap}
 use mathlib.Core.Bool.{Bool, true, false}
@@ -25,11 +27,10 @@ use Rattle.base_keys.specs.Keys.{key_of}
 use Rattle.base_keys.proofs.KeyLaws.{key-less, key_more}
 use Rattle.parse_labels.specs.Names.{name_from}
 use Rattle.object.specs.Slots.{upper_name, Rising, Slotted}
-use Rattle.object.specs.declared.Slot.{Slot}
-use Rattle.object.specs.declared.Slot.TheVariants.{Taken, Free}
 use Rattle.pass1_symbols.specs.Symbols.{symbol_row, symbols, key_row, KeyedRow, Growing, InsertAt, Inserted}
 use Rattle.pass1_symbols.specs.Adding.{named_at, Ready, Adding, Found}
-use Rattle.pass1_symbols.specs.declared.Added.TheVariants.{Held, Clash, Full}
+use Rattle.pass1_symbols.specs.declared.AddErr.{AddErr}
+use Rattle.pass1_symbols.specs.declared.AddErr.TheVariants.{Clash, Full}
 
 pub rising : {rs src : List ℕ} {n : ℕ} → Growing rs src n → Rising rs src n
 rising v = record { up = record { next = v.up.next } }
@@ -42,11 +43,11 @@ module _ {rs src : List ℕ} (name : List ℕ) {k key held : ℕ} (v : KeyedRow 
   pub keyed-more : key < held → Greater ≡ ordered (upper_name rs src k) (map upper name)
   keyed-more h = key_more (upper_name rs src k) (map upper name) (q ∙ v.key) p h
 
-module _ {rs src : List ℕ} {n a f s l : ℕ} {r : Slot} (v : Ready rs src n a f s l) (t : Slotted rs src n (name_from src s l) r) where
-  pub taken_in : {k : ℕ} → r ≡ Taken k → k * 4 + 4 ≤ length rs
+module _ {rs src : List ℕ} {n a f s l : ℕ} {r : Result ℕ ℕ} (v : Ready rs src n a f s l) (t : Slotted rs src n (name_from src s l) r) where
+  pub taken_in : {k : ℕ} → r ≡ Ok k → k * 4 + 4 ≤ length rs
   taken_in {k} e = omega (arith, v.table.few, v.table.room, (t.taken k e).0)
 
-  pub free-at : {p : ℕ} → r ≡ Free p → n < 1024 → InsertAt rs src n p a f s l
+  pub free-at : {p : ℕ} → r ≡ Err p → n < 1024 → InsertAt rs src n p a f s l
   free-at {p} e h = record {
     table = v.table;
     row = v.row;
@@ -66,7 +67,7 @@ said : (rs src : List ℕ) (n k : ℕ) (x : Name) → Growing rs src n → k < n
 unfolding symbols
 said rs src n k x v l e = rw (← e) (look-tab name_order n (symbol_row rs src) (sorted-tab name_order n (symbol_row rs src) v.up) k l)
 
-unsaid : (rs src : List ℕ) (n p : ℕ) (x : Name) {r : Slot} → Slotted rs src n x r → r ≡ Free p → look name_order (symbols n rs src) x ≡ none
+unsaid : (rs src : List ℕ) (n p : ℕ) (x : Name) {r : Result ℕ ℕ} → Slotted rs src n x r → r ≡ Err p → look name_order (symbols n rs src) x ≡ none
 unfolding symbols
 unsaid rs src n p x t e = look_none name_order n (symbol_row rs src) x go
   where
@@ -76,11 +77,11 @@ unsaid rs src n p x t e = look_none name_order n (symbol_row rs src) x go
       | no d ↦ before_irr x (rw (← q) at (t.above p e k (omega arith) b))
     ]
 
-module _ {rs src : List ℕ} {n : ℕ} {x : Name} {r : Slot} (v : Growing rs src n) (t : Slotted rs src n x r) where
-  pub found-row : {k : ℕ} → r ≡ Taken k → Found n rs src x (Some k)
+module _ {rs src : List ℕ} {n : ℕ} {x : Name} {r : Result ℕ ℕ} (v : Growing rs src n) (t : Slotted rs src n x r) where
+  pub found-row : {k : ℕ} → r ≡ Ok k → Found n rs src x (Some k)
   found-row {k} e = let u = t.taken k e in record { says = sym (said rs src n k x v u.0 u.1); row = λ j q. (let y : k ≡ j = cc in rw y at (t.taken k e)) }
 
-  pub found_none : {p : ℕ} → r ≡ Free p → Found n rs src x None
+  pub found_none : {p : ℕ} → r ≡ Err p → Found n rs src x None
   found_none {p} e = record { says = sym (unsaid rs src n p x t e); row = λ j q. (never cc) }
 
 count : (n : ℕ) (rs src : List ℕ) → length (symbols n rs src) ≡ n
@@ -106,19 +107,19 @@ by-look v p n ss = go (look name_order ss n.text)
 pick : {A : Type 0} (b c : Bool) (x y : A) → b ≡ c → (when b then x else y) ≡ (when c then x else y)
 pick b c x y e = ap (λ (t : Bool). when t then x else y) e
 
-held-no : {A : Type 0} {k m : ℕ} → Clash k ≡ Held m → A
+held-no : {A : Type 0} {k m : ℕ} → Err (Clash k) ≡ Ok m → A
 held-no e = never cc
 
-full-no : {A : Type 0} {m : ℕ} → Full ≡ Held m → A
+full-no : {A : Type 0} {m : ℕ} → Err Full ≡ Ok m → A
 full-no e = never cc
 
-kept-no : {A : Type 0} {k m : ℕ} → Held m ≡ Clash k → A
+kept-no : {A : Type 0} {k m : ℕ} → Ok m ≡ Err (Clash k) → A
 kept-no e = never cc
 
-clash-no : {A : Type 0} {k : ℕ} → Full ≡ Clash k → A
+clash-no : {A : Type 0} {k : ℕ} → ◌≡◌ {A = Result ℕ AddErr} (Err Full) (Err (Clash k)) → A
 clash-no e = never cc
 
-module _ {rs src : List ℕ} {n a f s l k b : ℕ} {r : Slot} (v : Ready rs src n a f s l) (t : Slotted rs src n (name_from src s l) r) (e : r ≡ Taken k) (q : b ≡ get_or rs (k * 4) 0) where
+module _ {rs src : List ℕ} {n a f s l k b : ℕ} {r : Result ℕ ℕ} (v : Ready rs src n a f s l) (t : Slotted rs src n (name_from src s l) r) (e : r ≡ Ok k) (q : b ≡ get_or rs (k * 4) 0) where
   found : look name_order (symbols n rs src) (name_from src s l) ≡ some (symbol_row rs src k).1
   found = let u = t.taken k e in said rs src n k (name_from src s l) v.table u.0 u.1
 
@@ -130,7 +131,7 @@ module _ {rs src : List ℕ} {n a f s l k b : ℕ} {r : Slot} (v : Ready rs src 
       let c = v.table.rows k (t.taken k e).0 in
       address-of (get_or rs (k * 4) 0) (get_or rs (k * 4 + 1) 0) c.flag c.outside ∙ sym q
 
-  pub add_kept : b ≡ a → Adding rs src rs n a f s l (Held n)
+  pub add_kept : b ≡ a → Adding rs src rs n a f s l (Ok n)
   unfolding when◌then◌else◌
   add_kept h = record {
     rule = λ p. sym (by-look (lab_from a f) p (named_at src s l) (symbols n rs src) ∙ (ap (chosen (lab_from a f) p (named_at src s l) (symbols n rs src)) found
@@ -139,7 +140,7 @@ module _ {rs src : List ℕ} {n a f s l k b : ℕ} {r : Slot} (v : Ready rs src 
     clash = λ m x. kept-no x;
   }
 
-  pub add-clash : (b ≡ a → ⊥) → Adding rs src rs n a f s l (Clash k)
+  pub add-clash : (b ≡ a → ⊥) → Adding rs src rs n a f s l (Err (Clash k))
   unfolding when◌then◌else◌
   add-clash h = record {
     rule = λ p. sym (by-look (lab_from a f) p (named_at src s l) (symbols n rs src) ∙ (ap (chosen (lab_from a f) p (named_at src s l) (symbols n rs src)) found
@@ -148,8 +149,8 @@ module _ {rs src : List ℕ} {n a f s l k b : ℕ} {r : Slot} (v : Ready rs src 
     clash = λ m x. (let y : k ≡ m = cc in (rw y at (t.taken k e).0, refl));
   }
 
-module _ {rs src : List ℕ} {n a f s l p : ℕ} {r : Slot} (t : Slotted rs src n (name_from src s l) r) (e : r ≡ Free p) where
-  pub add-full : 1024 ≤ n → Adding rs src rs n a f s l Full
+module _ {rs src : List ℕ} {n a f s l p : ℕ} {r : Result ℕ ℕ} (t : Slotted rs src n (name_from src s l) r) (e : r ≡ Err p) where
+  pub add-full : 1024 ≤ n → Adding rs src rs n a f s l (Err Full)
   unfolding when◌then◌else◌
   add-full h = record {
     rule = λ q. sym (by-look (lab_from a f) q (named_at src s l) (symbols n rs src)
@@ -159,7 +160,7 @@ module _ {rs src : List ℕ} {n a f s l p : ℕ} {r : Slot} (t : Slotted rs src 
     clash = λ m x. clash-no x;
   }
 
-  pub add-new : {rs' : List ℕ} → n < 1024 → Inserted rs src rs' n a f s l → Adding rs src rs' n a f s l (Held (n + 1))
+  pub add-new : {rs' : List ℕ} → n < 1024 → Inserted rs src rs' n a f s l → Adding rs src rs' n a f s l (Ok (n + 1))
   unfolding when◌then◌else◌
   add-new h i = record {
     rule = λ q. sym (by-look (lab_from a f) q (named_at src s l) (symbols n rs src)

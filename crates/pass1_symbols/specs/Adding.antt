@@ -1,4 +1,6 @@
 -- A name at an address is added as the rules' `add_label` adds it. Assumes nothing.
+use Rattle.std.specs.declared.result.Result.{Result}
+use Rattle.std.specs.declared.result.Result.TheVariants.{Ok, Err}
 use Rattle.std.specs.declared.option.Option as O
 use Rattle.std.specs.declared.option.Option.TheVariants.{Some, None}
 use Rattle.std.specs.Prelude.{◌≡◌, List, ℕ, ◌+◌, ◌<◌}
@@ -11,28 +13,28 @@ use Rattle.rules.specs.Passes.{Symbol, add_label}
 use Rattle.rules.specs.Buffers.{lab_from}
 use Rattle.parse_labels.specs.Names.{name_from}
 use Rattle.pass1_symbols.specs.Symbols.{symbol_row, symbols, Cells, Growing}
-use Rattle.pass1_symbols.specs.declared.Added.{Added}
-use Rattle.pass1_symbols.specs.declared.Added.TheVariants.{Held, Clash, Full}
+use Rattle.pass1_symbols.specs.declared.AddErr.{AddErr}
+use Rattle.pass1_symbols.specs.declared.AddErr.TheVariants.{Clash, Full}
 
 -- the name as a statement has it
 abbrev pub named_at : List ℕ → ℕ → ℕ → S.Name
 named_at src s l = record { text = name_from src s l; place = span s (s + l) }
 
 -- what the answer says of a name at s, in a statement at p
-abbrev pub outcome : (rs src rs' : List ℕ) (s l : ℕ) → Span → Added → Outcome (Table Name Symbol)
-outcome rs src rs' s l p (Held m) = ok (symbols m rs' src)
-outcome rs src rs' s l p (Clash k) = refuse2 25 (symbol_row rs src k).1.place (span s (s + l))
-outcome rs src rs' s l p Full = refuse 40 p
+abbrev pub outcome : (rs src rs' : List ℕ) (s l : ℕ) → Span → Result ℕ AddErr → Outcome (Table Name Symbol)
+outcome rs src rs' s l p (Ok m) = ok (symbols m rs' src)
+outcome rs src rs' s l p (Err (Clash k)) = refuse2 25 (symbol_row rs src k).1.place (span s (s + l))
+outcome rs src rs' s l p (Err Full) = refuse 40 p
 
 -- a table, and a name for it
 pub record Ready (rs src : List ℕ) (n a f s l : ℕ) : Type 0 where
   pub table : Growing rs src n
   pub row : Cells src a f s l
 
-pub record Adding (rs src rs' : List ℕ) (n a f s l : ℕ) (r : Added) : Type 0 where
+pub record Adding (rs src rs' : List ℕ) (n a f s l : ℕ) (r : Result ℕ AddErr) : Type 0 where
   pub rule : (p : Span) → outcome rs src rs' s l p r ≡ add_label (lab_from a f) p (named_at src s l) (symbols n rs src)
-  pub table : (m : ℕ) → r ≡ Held m → Growing rs' src m
-  pub clash : (k : ℕ) → r ≡ Clash k → (k < n) × (rs' ≡ rs)
+  pub table : (m : ℕ) → r ≡ Ok m → Growing rs' src m
+  pub clash : (k : ℕ) → r ≡ Err (Clash k) → (k < n) × (rs' ≡ rs)
 
 -- the symbol of a row
 abbrev pub found : (rs src : List ℕ) → O.Option ℕ → Option Symbol

@@ -12,7 +12,6 @@ ghost use Rattle.object.specs.Slots.{upper_name, Slotted};
 ghost use Rattle.pass1_symbols.specs.Symbols.{symbols, key_row, KeyedRow, Growing, InsertAt, Inserted};
 ghost use Rattle.pass1_symbols.specs.Adding.{Found, Ready, Adding};
 
-use object::Slot;
 use std::cmp::Ordering;
 
 // Behind the rows stand the keys of their names, each in two cells, the lower half first.
@@ -26,10 +25,9 @@ pub const SYMBOL_CELLS: usize = KEYS + base_capacities::LABELS * KEY_CELLS;
 // How many values a cell has.
 const CELL: u64 = 0x1_0000_0000;
 
-// What becomes of a name at an address: the table has so many rows, with it; row k has it at another address; or no row is left.
+// Why a name is not added at an address: row k has it at another; or no row is left.
 #[derive(Clone, Copy)]
-pub enum Added {
-    Held(usize),
+pub enum AddErr {
     Clash(usize),
     Full,
 }
@@ -67,8 +65,8 @@ fn compare_keyed(rows: &[u32], src: &[u8], k: usize, name: &[u8], key: u64) -> O
     object::compare_row(rows, src, k, name)
 }
 
-// The slot of a name with its key, by halving.
-fn slot_keyed(rows: &[u32], src: &[u8], n: usize, name: &[u8], key: u64) -> Slot
+// The row of a name with its key, or the row where it belongs, by halving.
+fn slot_keyed(rows: &[u32], src: &[u8], n: usize, name: &[u8], key: u64) -> Result<usize, usize>
     requires { Growing rows.now src.now n × (key ≡ key_of (map upper name.now)) }
     ensures { Slotted rows.now src.now n (map upper name.now) result }
 {
@@ -85,11 +83,11 @@ fn slot_keyed(rows: &[u32], src: &[u8], n: usize, name: &[u8], key: u64) -> Slot
                 hi = mid;
             }
             Ordering::Equal => {
-                return Slot::Taken(mid);
+                return Ok(mid);
             }
         }
     }
-    Slot::Free(lo)
+    Err(lo)
 }
 
 // The key of the name at `start` of the source, `size` bytes long.
@@ -102,8 +100,15 @@ fn key_from(src: &[u8], start: u32, size: u32) -> u64
     base_keys::key_of(&src[from..to])
 }
 
-// The slot of the name at `start` of the source, `size` bytes long, with its key.
-fn slot_at(rows: &[u32], src: &[u8], n: usize, start: u32, size: u32, key: u64) -> Slot
+// The row of the name at `start` of the source, `size` bytes long, with its key, or the row where it belongs.
+fn slot_at(
+    rows: &[u32],
+    src: &[u8],
+    n: usize,
+    start: u32,
+    size: u32,
+    key: u64,
+) -> Result<usize, usize>
     requires { Growing rows.now src.now n × (start + size ≤ length src.now) × (key ≡ key_of (name_from src.now start size)) }
     ensures { Slotted rows.now src.now n (name_from src.now start size) result }
 {
@@ -119,8 +124,8 @@ pub fn find_symbol(rows: &[u32], src: &[u8], n: usize, start: u32, size: u32) ->
 {
     let key = key_from(src, start, size);
     match slot_at(rows, src, n, start, size, key) {
-        Slot::Taken(k) => Some(k),
-        Slot::Free(_) => None,
+        Ok(k) => Some(k),
+        Err(_) => None,
     }
 }
 
@@ -175,25 +180,25 @@ pub fn add_symbol(
     flag: u32,
     start: u32,
     size: u32,
-) -> Added
+) -> Result<usize, AddErr>
     requires { Ready rows.old src.now n address flag start size }
     ensures { Adding rows.old src.now rows.new n address flag start size result }
 {
     let key = key_from(src, start, size);
     match slot_at(rows, src, n, start, size, key) {
-        Slot::Taken(k) => {
+        Ok(k) => {
             let held = address_of(rows, k);
             if held == address {
-                return Added::Held(n);
+                return Ok(n);
             }
-            Added::Clash(k)
+            Err(AddErr::Clash(k))
         }
-        Slot::Free(p) => {
+        Err(p) => {
             if base_capacities::LABELS <= n {
-                return Added::Full;
+                return Err(AddErr::Full);
             }
             insert_symbol(rows, src, n, p, address, flag, start, size, key);
-            Added::Held(n + 1)
+            Ok(n + 1)
         }
     }
 }

@@ -16,46 +16,38 @@ use Rattle.base_rotate.specs.Turned.{turned}
 use Rattle.base_rotate.proofs.Moved.{get-low, get-front, get-back, get-rest}
 use Rattle.pass2_blocks.specs.Rows.{orig_row, view_obj_blocks}
 use Rattle.pass2_blocks.specs.Spots.{ClashAt, FreeAt, Spotted}
-use Rattle.pass2_blocks.specs.declared.Spot.{Spot}
-use Rattle.pass2_blocks.specs.declared.Spot.TheVariants.{Clash, Free}
+use Rattle.std.specs.declared.result.Result.{Result}
+use Rattle.std.specs.declared.result.Result.TheVariants.{Ok, Err}
+use Rattle.base_refusals.specs.declared.Refusal.{Refusal}
+use Rattle.base_refusals.specs.Refusals.{refusal, refused_by}
 use Rattle.pass2_blocks.specs.Placing.{Ready, InsertAt, InsertedAt, clash_of, outcome, PlacedAs}
-use Rattle.pass2_blocks.specs.declared.Placing.{Placing}
-use Rattle.pass2_blocks.specs.declared.Placing.TheVariants as P
 use Rattle.pass2_blocks.proofs.Inserted.{row-rest, sum-rise}
 use Rattle.pass2_blocks.proofs.Placed.{clash-rule, free-rule, view-new, sum-new}
 
-pub clash-first : (os : List ℕ) (k o₁ o₂ b e : ℕ) → b ≡ get_or os (k * 2) 0 → e ≡ get_or os (k * 2 + 1) 0 → o₁ ≤ b → P.Overlaps o₁ o₂ b e ≡ clash_of os k o₁ o₂
+pub clash-first : (os : List ℕ) (k o₁ o₂ b e : ℕ) → b ≡ get_or os (k * 2) 0 → e ≡ get_or os (k * 2 + 1) 0 → o₁ ≤ b → refusal 28 o₁ o₂ b e ≡ clash_of os k o₁ o₂
 unfolding clash_of when◌then◌else◌
 clash-first os k o₁ o₂ b e eb ee h = let t : leb o₁ (get_or os (k * 2) 0) ≡ true = rw (← eb) (le-leb o₁ b h) in rw t (cc)
 
-pub clash-second : (os : List ℕ) (k o₁ o₂ b e : ℕ) → b ≡ get_or os (k * 2) 0 → e ≡ get_or os (k * 2 + 1) 0 → b < o₁ → P.Overlaps b e o₁ o₂ ≡ clash_of os k o₁ o₂
+pub clash-second : (os : List ℕ) (k o₁ o₂ b e : ℕ) → b ≡ get_or os (k * 2) 0 → e ≡ get_or os (k * 2 + 1) 0 → b < o₁ → refusal 28 b e o₁ o₂ ≡ clash_of os k o₁ o₂
 unfolding clash_of when◌then◌else◌
 clash-second os k o₁ o₂ b e eb ee h = let t : leb o₁ (get_or os (k * 2) 0) ≡ false = rw (← eb) (lt-leb o₁ b h) in rw t (cc)
 
-clash-says : (n : ℕ) (bs os' ws ms os : List ℕ) (k o₁ o₂ : ℕ) → outcome n bs os' ws ms (clash_of os k o₁ o₂) ≡ overlapping (span o₁ o₂) (orig_row os k)
+clash-says : (n : ℕ) (bs os' ws ms os : List ℕ) (k o₁ o₂ : ℕ) → outcome n bs os' ws ms (Err (clash_of os k o₁ o₂)) ≡ overlapping (span o₁ o₂) (orig_row os k)
 unfolding clash_of when◌then◌else◌ overlapping
 clash-says n bs os' ws ms os k o₁ o₂ = go (leb o₁ (get_or os (k * 2) 0))
   where
     go : (b : Bool)
-        → outcome n bs os' ws ms (when b then P.Overlaps o₁ o₂ (get_or os (k * 2) 0) (get_or os (k * 2 + 1) 0) else P.Overlaps (get_or os (k * 2) 0) (get_or os (k * 2 + 1) 0) o₁ o₂)
+        → outcome n bs os' ws ms (Err (when b then refusal 28 o₁ o₂ (get_or os (k * 2) 0) (get_or os (k * 2 + 1) 0) else refusal 28 (get_or os (k * 2) 0) (get_or os (k * 2 + 1) 0) o₁ o₂))
         ≡ (when b then refuse2 28 (span o₁ o₂) (orig_row os k) else refuse2 28 (orig_row os k) (span o₁ o₂))
     go true = refl
     go false = refl
 
-clash-not : (os : List ℕ) (k o₁ o₂ : ℕ) → clash_of os k o₁ o₂ ≡ P.Placed → ⊥
-unfolding clash_of when◌then◌else◌
-clash-not os k o₁ o₂ = go (leb o₁ (get_or os (k * 2) 0))
-  where
-    go : (b : Bool) → (when b then P.Overlaps o₁ o₂ (get_or os (k * 2) 0) (get_or os (k * 2 + 1) 0) else P.Overlaps (get_or os (k * 2) 0) (get_or os (k * 2 + 1) 0) o₁ o₂) ≡ P.Placed → ⊥
-    go true e = never cc
-    go false e = never cc
-
-pub clashes : (bs os ws ms : List ℕ) (n used a s o₁ o₂ k : ℕ) (r : Placing) → ClashAt bs n a s k → r ≡ clash_of os k o₁ o₂
+pub clashes : (bs os ws ms : List ℕ) (n used a s o₁ o₂ k : ℕ) (r : Result (Unit {0}) Refusal) → ClashAt bs n a s k → r ≡ Err (clash_of os k o₁ o₂)
     → PlacedAs bs os ws ms bs os ws ms n used a s o₁ o₂ r
 clashes bs os ws ms n used a s o₁ o₂ k r c e =
     record {
       rule = ap (outcome n bs os ws ms) e ∙ clash-says n bs os ws ms os k o₁ o₂ ∙ clash-rule bs os ws ms n used a s o₁ o₂ k c;
-      kept = λ q. absurd (clash-not os k o₁ o₂ (sym e ∙ q));
+      kept = λ q. never cc;
     }
 
 -- the index from which a turn takes what stands at i
@@ -84,7 +76,7 @@ insert-at bs os ws ms n k at used a s r f =
     record { ready = r; row = f.within; here = f.sum; low = omega (arith, r.sum, f.sum, sum-rise (head_row bs) k n f.within) }
 
 pub places : (bs os ws ms bs' os' ws' ms' : List ℕ) (n used a s o₁ o₂ k at : ℕ) → Ready bs os ws ms n used s → FreeAt bs n a s k at
-    → InsertedAt bs os ws ms bs' os' ws' ms' n k at used a s o₁ o₂ → PlacedAs bs os ws ms bs' os' ws' ms' n used a s o₁ o₂ P.Placed
+    → InsertedAt bs os ws ms bs' os' ws' ms' n k at used a s o₁ o₂ → PlacedAs bs os ws ms bs' os' ws' ms' n used a s o₁ o₂ (Ok tt)
 places bs os ws ms bs' os' ws' ms' n used a s o₁ o₂ k at r f i =
     let w : ws' ≡ turned (sum_of (head_row bs) k) (used - s) used ws = i.words ∙ ap (λ (x : ℕ). turned x (used - s) used ws) f.sum in
     let m : ms' ≡ turned (sum_of (head_row bs) k) (used - s) used ms = i.marks ∙ ap (λ (x : ℕ). turned x (used - s) used ms) f.sum in
@@ -104,19 +96,19 @@ places bs os ws ms bs' os' ws' ms' n used a s o₁ o₂ k at r f i =
 
 -- BY THE SPOT THAT WAS FOUND
 
-clashed : (bs : List ℕ) (n a s k : ℕ) (d : Spot) → Spotted bs n a s d → d ≡ Clash k → ClashAt bs n a s k
+clashed : (bs : List ℕ) (n a s k : ℕ) (d : Result (ℕ × ℕ) ℕ) → Spotted bs n a s d → d ≡ Err k → ClashAt bs n a s k
 clashed bs n a s k d f e = subst (Spotted bs n a s) e f
 
-freed : (bs : List ℕ) (n a s k at : ℕ) (d : Spot) → Spotted bs n a s d → d ≡ Free k at → FreeAt bs n a s k at
+freed : (bs : List ℕ) (n a s k at : ℕ) (d : Result (ℕ × ℕ) ℕ) → Spotted bs n a s d → d ≡ Ok (k, at) → FreeAt bs n a s k at
 freed bs n a s k at d f e = subst (Spotted bs n a s) e f
 
-pub spot-clashes : (bs os ws ms : List ℕ) (n used a s o₁ o₂ k : ℕ) (d : Spot) (r : Placing) → Spotted bs n a s d → d ≡ Clash k → r ≡ clash_of os k o₁ o₂
+pub spot-clashes : (bs os ws ms : List ℕ) (n used a s o₁ o₂ k : ℕ) (d : Result (ℕ × ℕ) ℕ) (r : Result (Unit {0}) Refusal) → Spotted bs n a s d → d ≡ Err k → r ≡ Err (clash_of os k o₁ o₂)
     → PlacedAs bs os ws ms bs os ws ms n used a s o₁ o₂ r
 spot-clashes bs os ws ms n used a s o₁ o₂ k d r f e q = clashes bs os ws ms n used a s o₁ o₂ k r (clashed bs n a s k d f e) q
 
-pub spot-free : (bs os ws ms : List ℕ) (n k at used a s : ℕ) (d : Spot) → Ready bs os ws ms n used s → Spotted bs n a s d → d ≡ Free k at → InsertAt bs os ws ms n k at used s
+pub spot-free : (bs os ws ms : List ℕ) (n k at used a s : ℕ) (d : Result (ℕ × ℕ) ℕ) → Ready bs os ws ms n used s → Spotted bs n a s d → d ≡ Ok (k, at) → InsertAt bs os ws ms n k at used s
 spot-free bs os ws ms n k at used a s d r f e = insert-at bs os ws ms n k at used a s r (freed bs n a s k at d f e)
 
-pub spot-places : (bs os ws ms bs' os' ws' ms' : List ℕ) (n used a s o₁ o₂ k at : ℕ) (d : Spot) → Ready bs os ws ms n used s → Spotted bs n a s d → d ≡ Free k at
-    → InsertedAt bs os ws ms bs' os' ws' ms' n k at used a s o₁ o₂ → PlacedAs bs os ws ms bs' os' ws' ms' n used a s o₁ o₂ P.Placed
+pub spot-places : (bs os ws ms bs' os' ws' ms' : List ℕ) (n used a s o₁ o₂ k at : ℕ) (d : Result (ℕ × ℕ) ℕ) → Ready bs os ws ms n used s → Spotted bs n a s d → d ≡ Ok (k, at)
+    → InsertedAt bs os ws ms bs' os' ws' ms' n k at used a s o₁ o₂ → PlacedAs bs os ws ms bs' os' ws' ms' n used a s o₁ o₂ (Ok tt)
 spot-places bs os ws ms bs' os' ws' ms' n used a s o₁ o₂ k at d r f e i = places bs os ws ms bs' os' ws' ms' n used a s o₁ o₂ k at r (freed bs n a s k at d f e) i

@@ -2,8 +2,8 @@
 use Rattle.std.specs.Prelude.{◌≡◌, Bool, true, false, List, ℕ, ◌+◌, ◌*◌, ◌≤◌, ◌<◌, length, get_or, ltb}
 use Rattle.rules.specs.Passes.{ranges_overlap}
 use Rattle.rules.specs.Buffers.{head_row, sum_of}
-use Rattle.pass2_blocks.specs.declared.Spot.{Spot}
-use Rattle.pass2_blocks.specs.declared.Spot.TheVariants.{Clash, Free}
+use Rattle.std.specs.declared.result.Result.{Result}
+use Rattle.std.specs.declared.result.Result.TheVariants.{Ok, Err}
 
 -- whether a block of s words at a overlaps row i, and starts before it
 abbrev pub hits : List ℕ → (a s i : ℕ) → Bool
@@ -40,6 +40,6 @@ pub record FreeAt (bs : List ℕ) (n a s k at : ℕ) : Type 0 where
   pub clear : k < n → hits bs a s k ≡ false
   pub before : k < n → ahead bs a k ≡ true
 
-abbrev pub Spotted : List ℕ → (n a s : ℕ) → Spot → Type 0
-Spotted bs n a s (Clash k) = ClashAt bs n a s k
-Spotted bs n a s (Free k at) = FreeAt bs n a s k at
+abbrev pub Spotted : List ℕ → (n a s : ℕ) → Result (ℕ × ℕ) ℕ → Type 0
+Spotted bs n a s (Err k) = ClashAt bs n a s k
+Spotted bs n a s (Ok (k, at)) = FreeAt bs n a s k at

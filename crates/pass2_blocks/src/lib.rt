@@ -8,25 +8,7 @@ ghost use Rattle.pass2_blocks.specs.Spots.{Spotted};
 ghost use Rattle.pass2_blocks.specs.Placing.{Ready, InsertAt, InsertedAt, clash_of, PlacedAs};
 
 use base_capacities::{BLOCK_CELLS, BLOCK_LENGTH};
-
-// What becomes of a block: it is placed; or it overlaps another, and these are both .orig, the earlier first.
-#[derive(Clone, Copy)]
-pub enum Placing {
-    Placed,
-    Overlaps {
-        first_start: u32,
-        first_end: u32,
-        second_start: u32,
-        second_end: u32,
-    },
-}
-
-// Where a block belongs: it overlaps a row; or it goes before a row, and its words to a place.
-#[derive(Clone, Copy)]
-pub enum Spot {
-    Clash(usize),
-    Free { row: usize, at: usize },
-}
+use base_refusals::{OVERLAPPING_BLOCKS, Refusal};
 
 // Each of two blocks starts before the other ends.
 fn ranges_overlap(a: u16, n: u16, b: u16, m: u16) -> bool
@@ -39,8 +21,8 @@ fn ranges_overlap(a: u16, n: u16, b: u16, m: u16) -> bool
     (from < other_end) & (other_from < end)
 }
 
-// The first row, by start, that the block overlaps, or else the one before which it belongs.
-fn find_spot(blocks: &[u16], n: usize, start: u16, size: u16) -> Spot
+// The row before which a block belongs, and the place of its words; or the first row, by start, that it overlaps.
+fn find_spot(blocks: &[u16], n: usize, start: u16, size: u16) -> Result<(usize, usize), usize>
     requires { (n ≤ 64) × (n * 2 ≤ length blocks.now) }
     ensures { Spotted blocks.now n start size result }
 {
@@ -49,14 +31,14 @@ fn find_spot(blocks: &[u16], n: usize, start: u16, size: u16) -> Spot
         let other = blocks[k * BLOCK_CELLS];
         let other_size = blocks[k * BLOCK_CELLS + BLOCK_LENGTH];
         if ranges_overlap(start, size, other, other_size) {
-            return Spot::Clash(k);
+            return Err(k);
         }
         if start < other {
-            return Spot::Free { row: k, at };
+            return Ok((k, at));
         }
         at += usize::from(other_size);
     }
-    Spot::Free { row: n, at }
+    Ok((n, at))
 }
 
 // The row (a, b) at row k of n rows of two.
@@ -68,26 +50,28 @@ fn row_in<T: Copy>(t: &mut [T], n: usize, k: usize, a: T, b: T)
     base_rotate::turn(t, k * 2, n * 2, n * 2 + 2);
 }
 
-// The .orig of a block, from `from` to `to`, and that of row k, the earlier first.
-fn overlap_with(origs: &[u32], k: usize, from: u32, to: u32) -> Placing
+// 28 at the .orig of a block, from `from` to `to`, and at that of row k, the earlier first.
+fn overlap_with(origs: &[u32], k: usize, from: u32, to: u32) -> Refusal
     requires { k * 2 + 1 < length origs.now }
     ensures { result ≡ clash_of origs.now k from to }
 {
     let other_start = origs[k * BLOCK_CELLS];
     let other_end = origs[k * BLOCK_CELLS + 1];
     if from <= other_start {
-        return Placing::Overlaps {
-            first_start: from,
-            first_end: to,
-            second_start: other_start,
-            second_end: other_end,
+        return Refusal {
+            number: OVERLAPPING_BLOCKS,
+            start: from as usize,
+            end: to as usize,
+            start2: other_start as usize,
+            end2: other_end as usize,
         };
     }
-    Placing::Overlaps {
-        first_start: other_start,
-        first_end: other_end,
-        second_start: from,
-        second_end: to,
+    Refusal {
+        number: OVERLAPPING_BLOCKS,
+        start: other_start as usize,
+        end: other_end as usize,
+        start2: from as usize,
+        end2: to as usize,
     }
 }
 
@@ -116,7 +100,7 @@ fn insert_block(
     base_rotate::turn(marks, at, mid, used);
 }
 
-// The block whose words are the last `size` in use, placed among the n closed ones.
+// The block whose words are the last `size` in use, placed among the n closed ones; or 28.
 pub fn place_block(
     blocks: &mut [u16],
     origs: &mut [u32],
@@ -128,17 +112,17 @@ pub fn place_block(
     size: u16,
     from: u32,
     to: u32,
-) -> Placing
+) -> Result<(), Refusal>
     requires { Ready blocks.old origs.old words.old marks.old n used size }
     ensures { PlacedAs blocks.old origs.old words.old marks.old blocks.new origs.new words.new marks.new n used start size from to result }
 {
     match find_spot(blocks, n, start, size) {
-        Spot::Clash(k) => overlap_with(origs, k, from, to),
-        Spot::Free { row, at } => {
+        Err(k) => Err(overlap_with(origs, k, from, to)),
+        Ok((row, at)) => {
             insert_block(
                 blocks, origs, words, marks, n, row, at, used, start, size, from, to,
             );
-            Placing::Placed
+            Ok(())
         }
     }
 }

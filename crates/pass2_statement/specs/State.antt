@@ -12,8 +12,6 @@ use Rattle.rules.specs.Passes as rule
 use Rattle.rules.specs.Buffers.{head_row, sum_of, WordRow}
 use Rattle.base_refusals.specs.Refusals.{refusal, refusal_at, refused_by}
 use Rattle.pass2_blocks.specs.Rows.{cells_at, view_obj_blocks}
-use Rattle.pass2_blocks.specs.declared.Placing.{Placing}
-use Rattle.pass2_blocks.specs.declared.Placing.TheVariants as placing
 use Rattle.parse_rows.specs.declared.Op.{Op}
 use Rattle.parse_rows.specs.declared.Op.TheVariants.{Instr, Orig, Fill, Blkw, Stringz, External}
 use Rattle.parse_rows.specs.declared.Op.TheVariants as op
@@ -85,10 +83,6 @@ closing t b = record { inside = false; start = t.start; orig_start = t.orig_star
 abbrev pub step_of : Pass2State → Result ℕ Fault → Result Pass2State Refusal
 step_of t (Ok u) = Ok (with_used t u)
 step_of t (Err f) = Err (refusal_at f.number f.start f.end)
-
-abbrev pub close_of : Pass2State → Placing → Result Pass2State Refusal
-close_of t placing.Placed = Ok (closing t (t.blocks + 1))
-close_of t (placing.Overlaps a b c d) = Err (refusal 28 a b c d)
 
 -- room for a statement's words
 pub record Emits (rs src : List ℕ) (n : ℕ) (ws ms : List ℕ) (st : Statement) (t : Pass2State) : Type 0 where

@@ -9,12 +9,11 @@ ghost use Rattle.base_refusals.specs.Refusals.{refusal_at};
 ghost use Rattle.pass1_symbols.specs.Symbols.{symbols};
 ghost use Rattle.parse_meaning.specs.Reading.{Faithful};
 ghost use Rattle.pass2_words.specs.Writing.{Room, Wrote};
-ghost use Rattle.pass2_statement.specs.State.{view_pass2, Standing, Stepping, Emits, Begins, Ends, Writes, with_used, one_word, known, opening, closing, step_of, close_of};
+ghost use Rattle.pass2_statement.specs.State.{view_pass2, Standing, Stepping, Emits, Begins, Ends, Writes, with_used, one_word, known, opening, closing, step_of};
 
 use base_refusals::{Fault, Refusal};
 use parse::Statement;
 use parse_rows::Op;
-use pass2_blocks::Placing;
 
 // The open block's start and .orig, where a block is open; how many blocks are closed, with how many words; and how many words are in use, those of the open block with them.
 #[derive(Clone, Copy)]
@@ -139,28 +138,6 @@ fn begin_block(st: Statement, t: Pass2State) -> Pass2State
     begin(t, st.bits as u16, st.start as u32, st.end as u32)
 }
 
-// What placing the open block answers, as a step from a state.
-fn close_of(t: Pass2State, answer: Placing) -> Result<Pass2State, Refusal>
-    requires { t.blocks < 64 }
-    ensures { result ≡ close_of t answer }
-{
-    match answer {
-        Placing::Placed => Ok(shut(t, t.blocks + 1)),
-        Placing::Overlaps {
-            first_start,
-            first_end,
-            second_start,
-            second_end,
-        } => Err(Refusal {
-            number: base_refusals::OVERLAPPING_BLOCKS,
-            start: first_start as usize,
-            end: first_end as usize,
-            start2: second_start as usize,
-            end2: second_end as usize,
-        }),
-    }
-}
-
 // .end: the open block is placed among those closed; 28 where it overlaps one, and nothing where it has no words.
 fn finish_block(
     blocks: &mut [u16],
@@ -183,10 +160,10 @@ fn finish_block(
         let start = t.start;
         let from = t.orig_start;
         let to = t.orig_end;
-        let answer = pass2_blocks::place_block(
+        pass2_blocks::place_block(
             blocks, origs, words, marks, n, used, start, length, from, to,
-        );
-        return close_of(t, answer);
+        )?;
+        return Ok(shut(t, n + 1));
     }
     Ok(t)
 }

@@ -50,8 +50,6 @@ use Rattle.lex_source.specs.Lexed.{meant_lexed}
 use Rattle.lex_source.proofs.OneAnswer as Lexer
 use Rattle.list.specs.Call.{Called}
 use Rattle.object_answer.specs.Writes as Writing
-use Rattle.object_answer.specs.declared.Written.{Written}
-use Rattle.object_answer.specs.declared.Written.TheVariants.{Bytes}
 use Rattle.rules.proofs.Fields as Fields
 use Rattle.rules.proofs.Disassembly as Disassembly
 use Rattle.rules.proofs.Laid as Laid
@@ -226,10 +224,10 @@ pub rev-lookup-label-one-answer : (c : Counts) (b : Buffers) (a : ℕ) (r s : Re
 rev-lookup-label-one-answer = Lookup.found-once
 
 -- THE CODE OF THE LISTING, crate `list`. Two answers that the contract of `list` allows are equal, and so are the buffers afterwards.
-pub list-one-answer : (c : Counts) (b : Buffers) (len : ℕ) (r s : Written) (x y : List ℕ) → Called c b len r x → Called c b len s y → r ≡ s
+pub list-one-answer : (c : Counts) (b : Buffers) (len : ℕ) (r s : Result ℕ ℕ) (x y : List ℕ) → Called c b len r x → Called c b len s y → r ≡ s
 list-one-answer c b len r s x y = Writing.one_answer
 
-pub list-one-buffer : (c : Counts) (b : Buffers) (len : ℕ) (r s : Written) (x y : List ℕ) → Called c b len r x → Called c b len s y → x ≡ y
+pub list-one-buffer : (c : Counts) (b : Buffers) (len : ℕ) (r s : Result ℕ ℕ) (x y : List ℕ) → Called c b len r x → Called c b len s y → x ≡ y
 list-one-buffer c b len r s x y = Writing.one_buffer
 
 -- THE CODE OF WORDS, crates `isa` and `isa_fields`: an instruction's meaning is the rule's of the same name, and the contracts are the equations below.
@@ -422,10 +420,10 @@ pub some-object-takes-them : (o : Object) × Good o × (length (stored o) ≡ mo
 some-object-takes-them = StoredReached.most-taken
 
 -- `stored::store`: two answers that the contract allows are equal, and so is the buffer of bytes.
-pub store-one-answer : (c : Counts) (b : Buffers) (len : ℕ) (r s : Written) (x y : List ℕ) → StoreCall.Called c b len r x → StoreCall.Called c b len s y → r ≡ s
+pub store-one-answer : (c : Counts) (b : Buffers) (len : ℕ) (r s : Result ℕ ℕ) (x y : List ℕ) → StoreCall.Called c b len r x → StoreCall.Called c b len s y → r ≡ s
 store-one-answer c b len r s x y = Writing.one_answer
 
-pub store-one-buffer : (c : Counts) (b : Buffers) (len : ℕ) (r s : Written) (x y : List ℕ) → StoreCall.Called c b len r x → StoreCall.Called c b len s y → x ≡ y
+pub store-one-buffer : (c : Counts) (b : Buffers) (len : ℕ) (r s : Result ℕ ℕ) (x y : List ℕ) → StoreCall.Called c b len r x → StoreCall.Called c b len s y → x ≡ y
 store-one-buffer c b len r s x y = Writing.one_buffer
 
 -- `stored_check::check`: two answers that the contract allows are equal.
@@ -442,7 +440,7 @@ load-accepts = Loading.accepted-call
 
 -- What `store` has written, lent to `load` with buffers that are long enough, is accepted: the object that was stored, in its one layout, with its counts.
 pub stored-object-loads :
-    (c : Counts) (b : Buffers) (len n : ℕ) (x : List ℕ) (out : Buffers) (r : Making.Answer) (y : Buffers) → StoreCall.Called c b len (Bytes n) x → ((i : ℕ) → get_or b.words i 0 < 65536)
+    (c : Counts) (b : Buffers) (len n : ℕ) (x : List ℕ) (out : Buffers) (r : Making.Answer) (y : Buffers) → StoreCall.Called c b len (Ok n) x → ((i : ℕ) → get_or b.words i 0 < 65536)
     → short out ≡ false → c.words ≤ lent_words out.words out.marks → Loaded out (take n x) r y → AcceptedCall out r y (view c b)
 stored-object-loads = LoadingBack.stored-loads
 

@@ -1,4 +1,6 @@
 -- A call that makes an object in buffers of full size, and what it has made stored. Assumes nothing.
+use Rattle.std.specs.declared.result.Result.{Result}
+use Rattle.std.specs.declared.result.Result.TheVariants.{Err}
 use Prim.Native.Nat.{ℕ}
 use mathlib.Core.Path.{◌≡◌, refl, sym, ◌∙◌, ap, subst}
 use mathlib.Core.Bool.{false}
@@ -17,18 +19,16 @@ use Rattle.rules.proofs.Rows.{lay-nil}
 use Rattle.object.specs.Meaning.{counts}
 use Rattle.object.specs.declared.Counts as code
 use Rattle.object_answer.specs.declared.Answer.{Answer}
-use Rattle.object_answer.specs.declared.Written.{Written}
-use Rattle.object_answer.specs.declared.Written.TheVariants.{Refused}
 use Rattle.object_answer.specs.Meant.{counts_in, Leaves, AcceptedCall}
 use Rattle.object_answer.specs.Writes.{Whole}
 use Rattle.object_answer.proofs.Full.{long-enough, layout-full}
 use Rattle.stored.specs.Call.{Called, MadeStored}
 
 -- an object; a refusal, and zeros
-pub object-stored : (a : Answer) (b : Buffers) (len : ℕ) (r : Written) (bytes : List ℕ) → a.number ≡ 0 → (c : code.Counts) → c ≡ counts_in a → Called (counts c) b len r bytes → MadeStored a b len r bytes
+pub object-stored : (a : Answer) (b : Buffers) (len : ℕ) (r : Result ℕ ℕ) (bytes : List ℕ) → a.number ≡ 0 → (c : code.Counts) → c ≡ counts_in a → Called (counts c) b len r bytes → MadeStored a b len r bytes
 object-stored a b len r bytes z c e h = record { object = λ n. subst (λ (d : code.Counts). Called (counts d) b len r bytes) e h; refusal = λ n. absurd (n z) }
 
-pub handed-on : (a : Answer) (b : Buffers) (len : ℕ) (bytes : List ℕ) → (a.number ≡ 0 → ⊥) → bytes ≡ zeros len → MadeStored a b len (Refused a.number) bytes
+pub handed-on : (a : Answer) (b : Buffers) (len : ℕ) (bytes : List ℕ) → (a.number ≡ 0 → ⊥) → bytes ≡ zeros len → MadeStored a b len (Err a.number) bytes
 handed-on a b len bytes n z = record { object = λ e. absurd (n e); refusal = λ m. record { answer = refl; buffer = z ∙ sym (lay-nil len) } }
 
 -- BUFFERS OF FULL SIZE: tables all zero, and these words and marks
@@ -106,7 +106,7 @@ module _ {o : Outcome Object} {out : Buffers} {a : Answer} {b : Buffers} (m : Ma
       go (refused q) e = record { refusal = q; made = e; same = refuses q e }
 
   -- STORED: what the rule says of the outcome
-  module _ (len : ℕ) (r : Written) (bytes : List ℕ) (s : MadeStored a b len r bytes) where
+  module _ (len : ℕ) (r : Result ℕ ℕ) (bytes : List ℕ) (s : MadeStored a b len r bytes) where
     whole-object : (x : Object) → Stands x a b → Called (counts (counts_in a)) b len r bytes → Whole (store len x) len r bytes
     whole-object x t c = let z = outcome-is c.outcome c.lent in rw z at c.whole
       where
@@ -123,4 +123,4 @@ module _ {o : Outcome Object} {out : Buffers} {a : Answer} {b : Buffers} (m : Ma
         go (refused q) e =
             let k = refuses q e in
             let w = s.refusal (m.numbered q e) in
-            record { answer = w.answer ∙ ap Refused k; buffer = w.buffer }
+            record { answer = w.answer ∙ ap Err k; buffer = w.buffer }

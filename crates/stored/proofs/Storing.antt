@@ -1,4 +1,5 @@
 -- The parts of a stored object one behind another, and what the buffer holds then. Assumes nothing.
+use Rattle.std.specs.declared.result.Result.TheVariants.{Ok, Err}
 use Prim.Native.Nat.{ℕ, ◌+◌, ◌≤◌, ◌<◌}
 use mathlib.Core.Path.{◌≡◌, refl, sym, ◌∙◌, ap}
 use mathlib.Core.Bool.{true, false}
@@ -20,7 +21,6 @@ use Rattle.stored_fields.proofs.Fields.{length-fin}
 use Rattle.stored_write_blocks.specs.Blocks.{blocks_bytes, BlocksSized}
 use Rattle.stored_write_labels.specs.Tables.{label_bytes, reloc_bytes, FieldsSized}
 use Rattle.object_answer.specs.Writes.{Whole}
-use Rattle.object_answer.specs.declared.Written.TheVariants.{Bytes, Refused}
 
 module _ (c : Counts) (b : Buffers) where
   abbrev pub blocks_of : List ℕ
@@ -70,16 +70,16 @@ module _ (c : Counts) (b : Buffers) where
     pub end_fits : (d e f : List ℕ) (m n k : ℕ) → size ≤ length out → Appended out d 0 m blocks_of → Appended d e m n labels_of → Appended e f n k relocs_of → k + length (field_of fin) ≤ length f
     end_fits d e f m n k h p q r = omega (arith, whole_length, length-fin, p.stop, p.size, q.stop, q.size, r.stop, r.size)
 
-    pub no_room : out ≡ zeros (length out) → length out < size → Whole (store (length out) (view c b)) (length out) (Refused 51) out
+    pub no_room : out ≡ zeros (length out) → length out < size → Whole (store (length out) (view c b)) (length out) (Err 51) out
     unfolding store
     no_room z l = let t : leb (length (stored (view c b))) (length out) ≡ false = lt-leb (length (stored (view c b))) (length out) (omega arith) in
         rw t (record { answer = refl; buffer = z ∙ sym (lay-nil (length out)) })
 
     pub all-written : (d e f g : List ℕ) (m n k j : ℕ) → out ≡ zeros (length out) → size ≤ length out
-        → Appended out d 0 m blocks_of → Appended d e m n labels_of → Appended e f n k relocs_of → Appended f g k j (field_of fin) → Whole (store (length out) (view c b)) (length out) (Bytes j) g
+        → Appended out d 0 m blocks_of → Appended d e m n labels_of → Appended e f n k relocs_of → Appended f g k j (field_of fin) → Whole (store (length out) (view c b)) (length out) (Ok j) g
     unfolding store
     all-written d e f g m n k j z h p q r u =
         let t : leb (length (stored (view c b))) (length out) ≡ true = le-leb (length (stored (view c b))) (length out) (omega arith) in
         let w : Appended out g 0 j (stored (view c b)) = rw four-parts (appended-more (appended-more (appended-more p q) r) u) in
         let y : j ≡ length (stored (view c b)) = w.stop ∙ zero-add (length (stored (view c b))) in
-        rw t (record { answer = ap Bytes y; buffer = appended-laid out g j (length out) (stored (view c b)) z w })
+        rw t (record { answer = ap Ok y; buffer = appended-laid out g j (length out) (stored (view c b)) z w })

@@ -10,7 +10,7 @@ ghost use Rattle.stored.specs.Call.{WrittenOf, Called, MadeStored};
 use base_capacities::{BLOCKS, LABELS, NAME_BYTES, RELOCATIONS, WORDS};
 use base_refusals::{BAD_OBJECT, NO_WRITE_ROOM, SHORT_BUFFER};
 use object::Counts;
-use object_answer::{Answer, Written};
+use object_answer::Answer;
 use object_check::ObjectErr;
 use stored_fields::{BLOCK_BYTES, HEAD_BYTES, NUMBER_BYTES};
 
@@ -54,14 +54,14 @@ fn store_object(
     relocations: &[u32],
     names: &[u8],
     bytes: &mut [u8],
-) -> Written
+) -> Result<usize, u16>
     requires valid { Valid (counts c) (six blocks.now words.now marks.now labels.now relocations.now names.now) }
     requires bytes_value { bytes.old ≡ zeros (length bytes.old) }
     ensures { WrittenOf (view (counts c) (six blocks.now words.now marks.now labels.now relocations.now names.now)) (length bytes.old) result bytes.new }
 {
     let size = stored_size(c, blocks, words, marks, labels, relocations, names);
     if bytes.len() < size {
-        return Written::Refused(NO_WRITE_ROOM);
+        return Err(NO_WRITE_ROOM);
     }
     let b = c.blocks;
     let w = c.words;
@@ -71,7 +71,7 @@ fn store_object(
     let second = stored_write_labels::put_labels(bytes, first, labels, names, l);
     let third = stored_write_labels::put_relocations(bytes, second, relocations, labels, names, n);
     let end = stored_fields::put_end(bytes, third);
-    Written::Bytes(end)
+    Ok(end)
 }
 
 // A lent object into lent bytes.
@@ -84,14 +84,14 @@ pub fn store(
     relocations: &[u32],
     names: &[u8],
     bytes: &mut [u8],
-) -> Written
+) -> Result<usize, u16>
     ensures { Called (counts c) (six blocks.now words.now marks.now labels.now relocations.now names.now) (length bytes.old) result bytes.new }
 {
     base_buffers::clear(bytes, 0);
     match object_check::check_object(c, blocks, words, marks, labels, relocations, names) {
         Ok(()) => store_object(c, blocks, words, marks, labels, relocations, names, bytes),
-        Err(ObjectErr::ShortBuffer) => Written::Refused(SHORT_BUFFER),
-        Err(ObjectErr::BadObject) => Written::Refused(BAD_OBJECT),
+        Err(ObjectErr::ShortBuffer) => Err(SHORT_BUFFER),
+        Err(ObjectErr::BadObject) => Err(BAD_OBJECT),
     }
 }
 
@@ -105,7 +105,7 @@ pub fn store_made(
     relocations: &[u32],
     names: &[u8],
     bytes: &mut [u8],
-) -> Written
+) -> Result<usize, u16>
     ensures { MadeStored answer (six blocks.now words.now marks.now labels.now relocations.now names.now) (length bytes.old) result bytes.new }
 {
     if answer.number == 0 {
@@ -113,5 +113,5 @@ pub fn store_made(
         return store(c, blocks, words, marks, labels, relocations, names, bytes);
     }
     base_buffers::clear(bytes, 0);
-    Written::Refused(answer.number)
+    Err(answer.number)
 }

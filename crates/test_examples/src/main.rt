@@ -3,7 +3,7 @@
 #![tactic(auto)]
 
 use lc3_input::STDOUT_FILENO;
-use object_answer::{Answer, Written};
+use object_answer::Answer;
 
 // How many words an example may have, and how many bytes its listing.
 const WORDS: usize = 1024;
@@ -47,12 +47,12 @@ fn print_answer(
         names,
         &mut text,
     ) {
-        Written::Bytes(n) => {
+        Ok(n) => {
             if n <= TEXT {
                 io::write_all(STDOUT_FILENO, &text[0..n]);
             }
         }
-        Written::Refused(number) => print_refused(number),
+        Err(number) => print_refused(number),
     }
 }
 

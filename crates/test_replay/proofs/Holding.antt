@@ -1,4 +1,6 @@
 -- A listing and an answer held to what is asked, and the buffers that are lent for it. Assumes nothing.
+use Rattle.std.specs.declared.result.Result.{Result}
+use Rattle.std.specs.declared.result.Result.TheVariants.{Ok, Err}
 use Prim.Native.Nat.{ℕ, zero, suc, ◌-◌, ◌≤◌, ◌<◌}
 use mathlib.Core.Path.{◌≡◌, refl, sym, ◌∙◌, ap, subst}
 use mathlib.Core.Bool.{Bool, true, false, ◌&&◌}
@@ -15,8 +17,6 @@ use Rattle.rules.specs.Listing.{list}
 use Rattle.object.specs.Meaning.{counts}
 use Rattle.object.specs.declared.Counts.{Counts}
 use Rattle.object_answer.specs.declared.Answer.{Answer}
-use Rattle.object_answer.specs.declared.Written.{Written}
-use Rattle.object_answer.specs.declared.Written.TheVariants.{Bytes, Refused}
 use Rattle.object_answer.specs.Meant.{counts_in}
 use Rattle.object_answer.specs.Writes.{coded}
 use Rattle.list.specs.Call.{Called}
@@ -26,16 +26,16 @@ use Rattle.test_replay.specs.Asked.{same_answer}
 use Rattle.test_replay.specs.Replayed.{listed_as, held_to, Listed, AsAsked, other, refusal, object, Replays, lent_to}
 
 -- THE LISTING
-module _ (x : Written) (text digits : List ℕ) where
-  pub held_bytes : {r : Bool} (n : ℕ) → x ≡ Bytes n → n ≤ length text → r ≡ same (take (n - 0) text) (unhexed digits) → r ≡ held_to x text digits
+module _ (x : Result ℕ ℕ) (text digits : List ℕ) where
+  pub held_bytes : {r : Bool} (n : ℕ) → x ≡ Ok n → n ≤ length text → r ≡ same (take (n - 0) text) (unhexed digits) → r ≡ held_to x text digits
   unfolding held_to when◌then◌else◌
   held_bytes n q h e = let z : n - 0 ≡ n = omega arith in rw (q, held_to, le-leb n (length text) h) (e ∙ ap (λ (k : ℕ). same (take k text) (unhexed digits)) z)
 
-  pub held-long : (n : ℕ) → x ≡ Bytes n → length text < n → false ≡ held_to x text digits
+  pub held-long : (n : ℕ) → x ≡ Ok n → length text < n → false ≡ held_to x text digits
   unfolding held_to when◌then◌else◌
   held-long n q h = rw (q, held_to, lt-leb n (length text) h) refl
 
-  pub held-refused : (k : ℕ) → x ≡ Refused k → (eqb k 51 && eqb (length digits) 0) ≡ held_to x text digits
+  pub held-refused : (k : ℕ) → x ≡ Err k → (eqb k 51 && eqb (length digits) 0) ≡ held_to x text digits
   unfolding held_to
   held-refused k q = rw (q, held_to) refl
 
@@ -46,7 +46,7 @@ held-coded (ok l) len digits =
     rw (le-leb (length l) (length (lay l len)) h, take-append_seam l (zeros (len - length l))) refl
 held-coded (refused r) len digits = refl
 
-pub listed-is : (c : Counts) (b : Buffers) {len : ℕ} {r : Written} {text digits : List ℕ} {v : Bool} → len ≡ 399 → Called (counts c) b len r text → v ≡ held_to r text digits → Listed c b digits v
+pub listed-is : (c : Counts) (b : Buffers) {len : ℕ} {r : Result ℕ ℕ} {text digits : List ℕ} {v : Bool} → len ≡ 399 → Called (counts c) b len r text → v ≡ held_to r text digits → Listed c b digits v
 listed-is c b {len} {r} {text} {digits} {v} e h q =
     let a : held_to r text digits ≡ held_to (coded h.outcome) (left_bytes h.outcome len) digits = rw (h.whole.answer, h.whole.buffer) refl in
     record {

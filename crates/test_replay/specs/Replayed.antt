@@ -1,4 +1,6 @@
 -- An answer and the listing of its object held to what a line asks for. Assumes nothing.
+use Rattle.std.specs.declared.result.Result.{Result}
+use Rattle.std.specs.declared.result.Result.TheVariants.{Ok, Err}
 use Rattle.std.specs.Prelude.{ℕ, ◌-◌, ◌≡◌, Bool, true, false, ◌&&◌, List, eqb, leb, length, take}
 use Rattle.rules.specs.Base.{when◌then◌else◌, Outcome, ok, refused, same}
 use Rattle.rules.specs.Buffers.{Buffers, six, view, zeros}
@@ -7,8 +9,6 @@ use Rattle.rules.specs.Listing.{list}
 use Rattle.object.specs.Meaning.{counts}
 use Rattle.object.specs.declared.Counts.{Counts}
 use Rattle.object_answer.specs.declared.Answer.{Answer}
-use Rattle.object_answer.specs.declared.Written.{Written}
-use Rattle.object_answer.specs.declared.Written.TheVariants.{Bytes, Refused}
 use Rattle.object_answer.specs.Meant.{counts_in}
 use Rattle.asm.specs.Call.{Assembled}
 use Rattle.test_support.specs.Sources.{unhexed}
@@ -21,9 +21,9 @@ listed_as (ok l) digits = same l (unhexed digits)
 listed_as (refused r) digits = eqb r.number 51 && eqb (length digits) 0
 
 -- the same of a listing's answer and the buffer that it left
-unfoldable pub held_to : Written → List ℕ → List ℕ → Bool
-held_to (Bytes n) text digits = when leb n (length text) then same (take n text) (unhexed digits) else false
-held_to (Refused k) text digits = eqb k 51 && eqb (length digits) 0
+unfoldable pub held_to : Result ℕ ℕ → List ℕ → List ℕ → Bool
+held_to (Ok n) text digits = when leb n (length text) then same (take n text) (unhexed digits) else false
+held_to (Err k) text digits = eqb k 51 && eqb (length digits) 0
 
 -- r says whether what listing the object in these buffers into 399 bytes answers is what the digits stand for
 pub record Listed (c : Counts) (b : Buffers) (digits : List ℕ) (r : Bool) : Type 0 where

@@ -8,7 +8,7 @@ ghost use Rattle.test_replay.specs.Asked.{lacking_at, expected_at, same_answer};
 ghost use Rattle.test_replay.specs.Replayed.{held_to, Listed, AsAsked, Replays, lent_to};
 
 use object::Counts;
-use object_answer::{Answer, Written};
+use object_answer::Answer;
 
 // How many numbers each lent buffer lacks of its full size, and where the field after them begins.
 #[derive(Clone, Copy)]
@@ -113,17 +113,17 @@ pub fn same_answer(a: Answer, b: Answer) -> bool
 }
 
 // Whether a listing of less than 400 bytes is that of the digits, and a longer one has none.
-fn same_listing(listed: Written, text: &[u8], digits: &[u8]) -> bool
+fn same_listing(listed: Result<usize, u16>, text: &[u8], digits: &[u8]) -> bool
     ensures { result ≡ held_to listed text.now digits.now }
 {
     match listed {
-        Written::Bytes(n) => {
+        Ok(n) => {
             if n <= text.len() {
                 return test_support::same_hex(&text[0..n], digits);
             }
             false
         }
-        Written::Refused(number) => (number == 51) & (digits.len() == 0),
+        Err(number) => (number == 51) & (digits.len() == 0),
     }
 }
 

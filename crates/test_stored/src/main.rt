@@ -3,7 +3,7 @@
 #![tactic(auto)]
 
 use lc3_input::STDOUT_FILENO;
-use object_answer::{Answer, Written};
+use object_answer::Answer;
 use std::cmp::Ordering;
 use std::fs::File;
 use std::num::wrapping_add_usize;
@@ -133,13 +133,13 @@ fn stored_again(
         &mut again,
     );
     match written {
-        Written::Bytes(n) => {
+        Ok(n) => {
             if n <= BYTES {
                 return same_bytes(&again[0..n], bytes);
             }
             false
         }
-        Written::Refused(_) => false,
+        Err(_) => false,
     }
 }
 

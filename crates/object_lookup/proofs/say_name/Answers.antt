@@ -9,8 +9,8 @@ slot_of-requires c = search (rules, rising)
 pub label_at-requires : goal.label_at-requires
 label_at-requires c = search (rules, taken_in)
 
-pub returns-in-Taken : goal.returns-in-Taken
-returns-in-Taken c = search (rules, said_row)
+pub returns-in-Ok : goal.returns-in-Ok
+returns-in-Ok c = search (rules, said_row)
 
-pub returns-in-Free : goal.returns-in-Free
-returns-in-Free c = search (rules, said-nothing)
+pub returns-in-Err : goal.returns-in-Err
+returns-in-Err c = search (rules, said-nothing)

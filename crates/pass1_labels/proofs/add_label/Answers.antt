@@ -3,5 +3,5 @@ use mathlib.Core.Path.{refl}
 use Rattle.pass1_labels.proofs.Adding.{name-held}
 use Rattle.pass1_labels.proofs.add_label.Goals as goal
 
-pub returns-in-Held : goal.returns-in-Held
-returns-in-Held c = name-held _ _ _ _ _ _ _ c.requires _ _ refl refl _ _ c.add_symbol.ensures _ _ _ c.in-Held.is
+pub returns-in-Ok : goal.returns-in-Ok
+returns-in-Ok c = name-held _ _ _ _ _ _ _ c.requires _ _ refl refl _ _ c.add_symbol.ensures _ _ _ c.in-Ok.is

@@ -6,8 +6,8 @@ use Rattle.pass2_blocks.proofs.place_block.Goals as goal
 pub insert_block-requires : goal.insert_block-requires
 insert_block-requires c = search (rules, spot-free)
 
-pub returns-in-Clash : goal.returns-in-Clash
-returns-in-Clash c = search (rules, spot-clashes)
+pub returns-in-Err : goal.returns-in-Err
+returns-in-Err c = search (rules, spot-clashes)
 
-pub returns-in-Free : goal.returns-in-Free
-returns-in-Free c = search (rules, spot-places)
+pub returns-in-Ok : goal.returns-in-Ok
+returns-in-Ok c = search (rules, spot-places)
