@@ -19,7 +19,7 @@ use Rattle.pass2_blocks.specs.Placing.{Ready, PlacedAs}
 use Rattle.pass2_blocks.specs.Placing as order
 use Rattle.pass2_blocks.proofs.Placed.{cells-long}
 use Rattle.pass2_statement.specs.declared.Pass2State.{Pass2State}
-use Rattle.pass2_statement.specs.State.{opened, view_pass2, Standing, Stepping, closing, Ends}
+use Rattle.pass2_statement.specs.State.{opened, view_pass2, Standing, Stepping, closing, close_of, Ends}
 use Rattle.pass2_statement.proofs.Emitting.{went, stuck}
 
 -- AN ORIG
@@ -43,11 +43,6 @@ kept-behind l l' k e i h =
     let q : i ≡ k + (i - k) = omega arith in
     rw q (sym (get_or-drop k l' (i - k) 0) ∙ (ap (λ (x : List ℕ). get_or x (i - k) 0) e ∙ get_or-drop k l (i - k) 0))
 
--- the state behind a block that was placed, or its refusal
-abbrev pub closed_by : Pass2State → Result (Unit {0}) Refusal → Result Pass2State Refusal
-closed_by t (Ok u) = Ok (closing t (t.blocks + 1))
-closed_by t (Err f) = Err f
-
 module _ (bs os ws ms : List ℕ) (t : Pass2State) (v : Ends bs os ws ms t) where
   k : Standing bs os ws ms t
   k = v.standing
@@ -69,7 +64,7 @@ module _ (bs os ws ms : List ℕ) (t : Pass2State) (v : Ends bs os ws ms t) wher
       few-left = v.few i (omega (arith, z))
 
       module _ (a b : ℕ) (x : a ≡ t.used - t.base) (y : b ≡ a) where
-        pub finish-placed : (bs' os' ws' ms' : List ℕ) → length bs' ≡ length bs → length os' ≡ length os → length ws' ≡ length ws → length ms' ≡ length ms → (p : Result (Unit {0}) Refusal) → PlacedAs bs os ws ms bs' os' ws' ms' t.blocks t.used t.start b t.orig_start t.orig_end p → (r : Result Pass2State Refusal) → r ≡ closed_by t p → Stepping bs' os' ws' ms' (finish (view_pass2 bs os ws ms t)) r
+        pub finish-placed : (bs' os' ws' ms' : List ℕ) → length bs' ≡ length bs → length os' ≡ length os → length ws' ≡ length ws → length ms' ≡ length ms → (p : Result (Unit {0}) Refusal) → PlacedAs bs os ws ms bs' os' ws' ms' t.blocks t.used t.start b t.orig_start t.orig_end p → (r : Result Pass2State Refusal) → r ≡ close_of t p → Stepping bs' os' ws' ms' (finish (view_pass2 bs os ws ms t)) r
         finish-placed bs' os' ws' ms' lb lo lw lm p h r q = rw q (go p refl)
           where
             base-is : t.used - b ≡ t.base
@@ -102,6 +97,6 @@ module _ (bs os ws ms : List ℕ) (t : Pass2State) (v : Ends bs os ws ms t) wher
               clear_origs = λ j l. kept-behind os os' (t.blocks * 2 + 2) c.origs j (omega arith) ∙ k.clear_origs j (omega arith);
             }
 
-            go : (o : Result (Unit {0}) Refusal) → p ≡ o → Stepping bs' os' ws' ms' (finish (view_pass2 bs os ws ms t)) (closed_by t o)
+            go : (o : Result (Unit {0}) Refusal) → p ≡ o → Stepping bs' os' ws' ms' (finish (view_pass2 bs os ws ms t)) (close_of t o)
             go (Ok u) e = went bs' os' ws' ms' _ (closing t (t.blocks + 1)) (still e) (sym (rule-is _ (ap (order.outcome t.blocks bs' os' ws' ms') e)))
             go (Err f) e = stuck bs' os' ws' ms' _ f (sym (rule-is _ (ap (order.outcome t.blocks bs' os' ws' ms') e)))

@@ -84,6 +84,10 @@ abbrev pub step_of : Pass2State → Result ℕ Fault → Result Pass2State Refus
 step_of t (Ok u) = Ok (with_used t u)
 step_of t (Err f) = Err (refusal_at f.number f.start f.end)
 
+abbrev pub close_of : Pass2State → Result (Unit {0}) Refusal → Result Pass2State Refusal
+close_of t (Ok u) = Ok (closing t (t.blocks + 1))
+close_of t (Err f) = Err f
+
 -- room for a statement's words
 pub record Emits (rs src : List ℕ) (n : ℕ) (ws ms : List ℕ) (st : Statement) (t : Pass2State) : Type 0 where
   pub roomy : t.inside ≡ true → Roomy rs src n ws ms st t.used (t.start + (t.used - t.base))

@@ -9,7 +9,7 @@ ghost use Rattle.base_refusals.specs.Refusals.{refusal_at};
 ghost use Rattle.pass1_symbols.specs.Symbols.{symbols};
 ghost use Rattle.parse_meaning.specs.Reading.{Faithful};
 ghost use Rattle.pass2_words.specs.Writing.{Room, Wrote};
-ghost use Rattle.pass2_statement.specs.State.{view_pass2, Standing, Stepping, Emits, Begins, Ends, Writes, with_used, one_word, known, opening, closing, step_of};
+ghost use Rattle.pass2_statement.specs.State.{view_pass2, Standing, Stepping, Emits, Begins, Ends, Writes, with_used, one_word, known, opening, closing, step_of, close_of};
 
 use base_refusals::{Fault, Refusal};
 use parse::Statement;
@@ -138,6 +138,17 @@ fn begin_block(st: Statement, t: Pass2State) -> Pass2State
     begin(t, st.bits as u16, st.start as u32, st.end as u32)
 }
 
+// What placing the open block answers, as a step from a state.
+fn close_of(t: Pass2State, answer: Result<(), Refusal>) -> Result<Pass2State, Refusal>
+    requires { t.blocks < 64 }
+    ensures { result ≡ close_of t answer }
+{
+    match answer {
+        Ok(()) => Ok(shut(t, t.blocks + 1)),
+        Err(refusal) => Err(refusal),
+    }
+}
+
 // .end: the open block is placed among those closed; 28 where it overlaps one, and nothing where it has no words.
 fn finish_block(
     blocks: &mut [u16],
@@ -160,10 +171,10 @@ fn finish_block(
         let start = t.start;
         let from = t.orig_start;
         let to = t.orig_end;
-        pass2_blocks::place_block(
+        let answer = pass2_blocks::place_block(
             blocks, origs, words, marks, n, used, start, length, from, to,
-        )?;
-        return Ok(shut(t, n + 1));
+        );
+        return close_of(t, answer);
     }
     Ok(t)
 }
