@@ -9,6 +9,6 @@ pub fn insert<T: Copy>(t: &mut [T], n: usize, k: usize, row: &[T])
     requires { (k ≤ n) × (n + length row.now ≤ length t.old) }
     ensures { t.new ≡ inserted t.old n k row.now }
 {
-    t[k..n + row.len()].rotate_right(row.len());
+    t.copy_within(k..n, k + row.len());
     t[k..k + row.len()].copy_from_slice(row);
 }

@@ -43,10 +43,11 @@ fn word_at(words: &[u16], i: usize) -> u16
 fn block_cell(blocks: &[u16], k: usize, i: usize) -> u16
     ensures { result ≡ slice_index blocks.now (k * 2 + i) }
 {
-    blocks
-        .get(k.saturating_mul(BLOCK_CELLS).saturating_add(i))
-        .copied()
-        .unwrap_or(0)
+    // The row is tested before it is multiplied: over saturating numbers the view of an object of many blocks took up to twice as long.
+    if blocks.len() / BLOCK_CELLS < k {
+        return 0;
+    }
+    blocks[k * BLOCK_CELLS..].get(i).copied().unwrap_or(0)
 }
 
 // A count of something, and a text behind it.

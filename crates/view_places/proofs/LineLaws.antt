@@ -17,6 +17,25 @@ use Rattle.base_text.proofs.Rest.{from_start, from_step, from_end, begins-at}
 use Rattle.view_places.specs.Lines.{feed, feeds, moved, since_from, since, line_start, line_stop, ends_line}
 
 module _ (b : ℕ) where
+  pub feed-ten : b ≡ 10 → 1 ≡ feed b
+  unfolding feed when◌then◌else◌
+  feed-ten h = rw (eq-eqb b 10 h)
+
+  pub feed-other : (b ≡ 10 → ⊥) → 0 ≡ feed b
+  unfolding feed when◌then◌else◌
+  feed-other h = rw (ne_eqb b 10 h)
+
+  pub feed-small : feed b ≤ 1
+  unfolding feed when◌then◌else◌
+  feed-small = go (eqb b 10)
+    where
+      go : (t : Bool) → (when t then 1 else 0) ≤ 1
+      go true = omega arith
+      go false = omega arith
+
+  pub feed-one : {f : ℕ} → f ≡ feed b → f ≤ 1
+  feed-one e = omega (arith, e, feed-small)
+
   pub moved-ten : (k : ℕ) → b ≡ 10 → 0 ≡ moved k b
   unfolding moved when◌then◌else◌
   moved-ten k h = rw (eq-eqb b 10 h)
@@ -36,6 +55,14 @@ module _ (b : ℕ) where
 pub moved-one : (b k : ℕ) {m : ℕ} → m ≡ moved k b → m ≤ k + 1
 moved-one b k e = omega (arith, e, moved-small b k)
 
+pub feeds-on : (s : List ℕ) (i : ℕ) → i < length s → feeds (from s i) ≡ feed (get_or s i 0) + feeds (from s (i + 1))
+unfolding feeds
+feeds-on s i h = rw (from_step s i h)
+
+pub feeds-none : (s : List ℕ) (i : ℕ) → length s ≤ i → feeds (from s i) ≡ 0
+unfolding feeds
+feeds-none s i h = rw (from_end s i h)
+
 pub since-on : (k : ℕ) (s : List ℕ) (i : ℕ) → i < length s → since_from k (from s i) ≡ since_from (moved k (get_or s i 0)) (from s (i + 1))
 unfolding since_from
 since-on k s i h = rw (from_step s i h)
@@ -44,13 +71,22 @@ pub since_none : (k : ℕ) (s : List ℕ) (i : ℕ) → length s ≤ i → since
 unfolding since_from
 since_none k s i h = rw (from_end s i h)
 
--- as the loop meets them
+-- as the loops meet them
 module _ (s : List ℕ) {i : ℕ} where
+  pub feeds-again : (n : ℕ) {f : ℕ} → i < length s → f ≡ feed (get_or s i 0) → n + feeds (from s i) ≡ feeds s → (n + f) + feeds (from s (i + 1)) ≡ feeds s
+  feeds-again n h e g = omega (arith, e, g, feeds-on s i h)
+
+  pub feeds-over : {n : ℕ} → length s ≤ i → n + feeds (from s i) ≡ feeds s → n ≡ feeds s
+  feeds-over h g = omega (arith, g, feeds-none s i h)
+
   pub since-again : (k : ℕ) {m : ℕ} → i < length s → m ≡ moved k (get_or s i 0) → since_from k (from s i) ≡ since s → since_from m (from s (i + 1)) ≡ since s
   since-again k h e g = ap (λ (x : ℕ). since_from x (from s (i + 1))) e ∙ sym (since-on k s i h) ∙ g
 
   pub since-over : {k : ℕ} → length s ≤ i → since_from k (from s i) ≡ since s → k ≡ since s
   since-over h g = sym (since_none _ s i h) ∙ g
+
+pub feeds-start : (s : List ℕ) → 0 + feeds (from s 0) ≡ feeds s
+feeds-start s = omega (arith, ap feeds (from_start s))
 
 pub since-start : (s : List ℕ) → since_from 0 (from s 0) ≡ since s
 unfolding since

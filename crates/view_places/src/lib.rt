@@ -2,14 +2,28 @@
 #![tactic(auto)]
 
 ghost use Rattle.std.specs.Prelude.{◌≡◌, ◌≤◌, ◌<◌, length};
-ghost use Rattle.view_places.specs.Lines.{feeds, moved, since, line_start, ends_line, line_stop};
+ghost use Rattle.view_places.specs.Lines.{feed, feeds, moved, since, line_start, ends_line, line_stop};
 ghost use Rattle.view_places.specs.Names.{name_row};
 
-// How many line feeds stand in these bytes.
+// One for a line feed, none for another byte.
+fn feed_of(b: u8) -> usize
+    ensures { result ≡ feed b }
+{
+    if b == b'\n' {
+        return 1;
+    }
+    0
+}
+
+// How many line feeds stand in these bytes. They are added up and not filtered, so that many are looked at at once.
 pub fn line_feeds(before: &[u8]) -> usize
     ensures { result ≡ feeds before.now }
 {
-    before.iter().filter(|b| **b == b'\n').count()
+    let mut n = 0;
+    for b in before {
+        n += feed_of(*b);
+    }
+    n
 }
 
 // How many bytes stand behind the last line feed, one byte on.
