@@ -31,6 +31,18 @@ pasted-more {d₀} {at} {s} {d} {i} p room l =
 pub pasted-all : {d₀ : List ℕ} {at : ℕ} {s d : List ℕ} {i : ℕ} → Pasted d₀ at s d i → length s ≤ i → d ≡ paste d₀ at s (length s)
 pasted-all {d₀} {at} {s} {d} {i} p l = let e : i ≡ length s = omega arith in p.here ∙ ap (paste d₀ at s) e
 
+-- the same of cells of any type: one cell on, and all of them
+module _ {A : Type 0} (d₀ s d : List A) (at k : ℕ) (h : d ≡ paste d₀ at s k) where
+  pub cell-pasted : {x : A} → at + length s ≤ length d₀ → k < length s → x ≡ get_or s k x → set d (at + k) x ≡ paste d₀ at s (k + 1)
+  cell-pasted {x} room l e =
+      ap (λ (y : A). set d (at + k) y) e
+      ∙ ap (λ (b : List A). set b (at + k) (get_or s k x)) h
+      ∙ paste-suc d₀ at s k x (omega arith) l
+      ∙ ap (paste d₀ at s) (sym (add-one k))
+
+  pub cells-pasted : length s ≤ k → k ≤ length s → d ≡ paste d₀ at s (length s)
+  cells-pasted l m = let e : k ≡ length s = omega arith in h ∙ ap (paste d₀ at s) e
+
 -- eight on
 with-eight : {d₀ : List ℕ} {at : ℕ} {s d : List ℕ} {i : ℕ} → Pasted d₀ at s d i → at + length s ≤ length d₀ → i + 8 ≤ length s
     → Pasted d₀ at s (with_eight d at s i) (i + 8)

@@ -15,12 +15,14 @@ pub fn clear<T: Copy>(b: &mut [T], blank: T)
     }
 }
 
-// All of src, from index `at` of dst.
+// All of src, from index `at` of dst. A loop of its own: `copy_from_slice` would have the archive for C need a function of the C library.
 pub fn put<T: Copy>(dst: &mut [T], at: usize, src: &[T])
     requires { at + length src.now ≤ length dst.old }
     ensures { dst.new ≡ paste dst.old at src.now (length src.now) }
 {
-    dst[at..at + src.len()].copy_from_slice(src);
+    for i in 0..src.len() {
+        dst[at + i] = src[i];
+    }
 }
 
 // How many bytes are copied in one step.

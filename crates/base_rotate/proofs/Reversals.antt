@@ -2,11 +2,15 @@
 use Rattle.std.proofs.Common.{◌≡◌, ℕ, ◌+◌, ◌-◌, ◌≤◌, List, ◌++◌, length, take, drop, ap, sym, ◌∙◌, arith, append_assoc}
 use mathlib.Core.List.{reverse, reverse-append, reverse-reverse}
 use lib.ListN.{length-append, length-reverse, take-append-drop}
+use Rattle.std.proofs.lemmas.List.{drop-take}
 use lib.Seq.{slice, slice_empty, length-take-le, length-slice, take-take, take_at, drop_at, drop-drop}
 use Rattle.base_rotate.specs.Turned.{turned}
-use Rattle.base_rotate.proofs.Turns.{part}
 
 module _ {A : Type 0} where
+  -- the part from f to t, as the first elements behind f
+  part : (b : List A) (f t : ℕ) → f ≤ t → take (t - f) (drop f b) ≡ slice f t b
+  part b f t h = let e : f + (t - f) ≡ t = omega arith in sym (drop-take f (t - f) b) ∙ ap (λ (k : ℕ). drop f (take k b)) e
+
   -- b with what stands from lo to hi in reverse
   unfoldable pub reversed : ℕ → ℕ → List A → List A
   reversed lo hi b = take lo b ++ (reverse (slice lo hi b) ++ drop hi b)

@@ -1,13 +1,10 @@
-// Two neighbouring ranges of a buffer exchanged in place.
+// Two neighbouring ranges of a buffer exchanged in place, by three reversals.
 #![tactic(auto)]
 
 ghost use Rattle.std.specs.Prelude.{◌≡◌, ◌≤◌, length};
 ghost use Rattle.base_rotate.specs.Turned.{turned};
 
-// Of so few cells three reversals take less time than one rotation, which first makes room for itself.
-const FEW_CELLS: usize = 256;
-
-// What stands from mid to hi, then what stands from lo to mid.
+// What stands from mid to hi, then what stands from lo to mid. Where one of the two is empty nothing moves. `rotate_left` would have the archive for C need functions of the C library.
 pub fn turn<T>(b: &mut [T], lo: usize, mid: usize, hi: usize)
     requires { (lo ≤ mid) × ((mid ≤ hi) × (hi ≤ length b.old)) }
     ensures { b.new ≡ turned lo mid hi b.old }
@@ -15,11 +12,7 @@ pub fn turn<T>(b: &mut [T], lo: usize, mid: usize, hi: usize)
     if lo == mid || mid == hi {
         return;
     }
-    if hi - lo <= FEW_CELLS {
-        b[lo..mid].reverse();
-        b[mid..hi].reverse();
-        b[lo..hi].reverse();
-        return;
-    }
-    b[lo..hi].rotate_left(mid - lo);
+    b[lo..mid].reverse();
+    b[mid..hi].reverse();
+    b[lo..hi].reverse();
 }

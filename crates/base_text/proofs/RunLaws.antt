@@ -1,7 +1,5 @@
 -- A run of bytes of a class, one byte on, and where it ends. Assumes nothing.
-use Prim.Native.Nat.{ℕ, suc, ◌+◌, ◌<◌, ◌≤◌, max}
-use lib.Dec.{ltb}
-use borrow.Author.Tests.{ltb-true, ltb-false}
+use Prim.Native.Nat.{ℕ, suc, ◌+◌, ◌<◌, ◌≤◌}
 use mathlib.Core.Path.{◌≡◌, refl, sym, ◌∙◌, ap}
 use mathlib.Core.Bool.{Bool, true, false}
 use mathlib.Core.List.{List, [], ◌∷◌}
@@ -45,18 +43,12 @@ module _ (k : Class) (s : List ℕ) {i x : ℕ} {t : Bool} (h : i < length s) (e
   pub run-stop : t ≡ false → run_end k s i ≡ x → i ≡ x
   run-stop q g = sym (run_out k s i h (sym e ∙ q)) ∙ g
 
--- a loop that began past the end did not run
-pub run-over : (k : Class) (s : List ℕ) {i at m : ℕ} → length s ≤ i → (at ≤ length s → i ≤ length s) → run_end k s i ≡ run_end k s at → m ≡ max at (length s)
-    → m ≡ run_end k s at
-run-over k s {i} {at} {m} h near g e = go (ltb (length s) at) refl
-  where
-    go : (t : Bool) → ltb (length s) at ≡ t → m ≡ run_end k s at
-    go true p = (let l = ltb-true (length s) at p in let q : m ≡ at = omega arith in q ∙ sym (run_past k s at (omega arith)))
-    go false p =
-        let l = ltb-false (length s) at p in
-        let q : i ≡ length s = omega (arith, near l) in
-        let n : m ≡ i = omega arith in
-        n ∙ (sym (run_past k s i h) ∙ g)
+pub run-over : (k : Class) (s : List ℕ) {i x : ℕ} → length s ≤ i → run_end k s i ≡ x → i ≡ x
+run-over k s h g = sym (run_past k s _ h) ∙ g
+
+-- a loop that ends with the list
+pub run-whole : (k : Class) (s : List ℕ) {i x : ℕ} → length s ≤ i → i ≤ length s → run_end k s i ≡ x → length s ≡ x
+run-whole k s {i} h l g = let e : length s ≡ i = omega arith in e ∙ run-over k s h g
 
 -- the byte at a run's end is not of the class
 after-while : (p : ℕ → Bool) (l : List ℕ) → length (while p l) < length l → p (get_or l (length (while p l)) 0) ≡ false

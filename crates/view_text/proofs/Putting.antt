@@ -6,8 +6,8 @@ use native.Mathlib.Nat.{add-zero}
 use native.Mathlib.Decide.{dec_le}
 use native.Mathlib.Omega.{arith}
 use native.Mathlib.Numerals.{add-one}
-use lib.ListN.{length, take, drop, set, replicate, length-replicate, length-append, length-take, length-drop, take-append-drop}
-use lib.Seq.{drop-drop, take_all, take-nil, take-append-le, set_split}
+use lib.ListN.{length, get_or, take, drop, set, replicate, length-replicate, length-append, length-take, length-drop, take-append-drop}
+use lib.Seq.{drop-drop, take_all, take-nil, take-suc, take-append-le, set_split}
 use borrow.Rule.Slice.PartMut.{put_mid}
 use Rattle.std.proofs.lemmas.List.{take_min, take-replicate}
 use Rattle.list_lines.specs.Appended.{written, Appended}
@@ -137,6 +137,13 @@ none-in b at t h =
       here = sym (ap (written b at) f ∙ written_none b at);
       stop = sym (ap (λ (l : List ℕ). at + length l) f ∙ add-zero at);
     }
+
+-- the loop over a text: its first byte, one more, all
+pub text-more : {b c d : List ℕ} {at m e : ℕ} (t : List ℕ) (i : ℕ) → i < length t → Put b c at m (take i t) → Put c d m e (get_or t i 0 ∷ []) → Put b d at e (take (i + 1) t)
+text-more t i h p q = put_same (sym (rw add-one (take-suc t i 0 h))) (put-more p q)
+
+pub text-all : {b c : List ℕ} {at e : ℕ} (t : List ℕ) (i : ℕ) → length t ≤ i → Put b c at e (take i t) → Put b c at e t
+text-all t i h p = put_same (take_all i t h) p
 
 -- behind a text that was cut nothing stands, whatever was to follow
 put-cut : {b c : List ℕ} {at e : ℕ} (t x y : List ℕ) → length b - at ≤ length t → Put b c at e (t ++ x) → Put b c at e (t ++ y)

@@ -20,12 +20,11 @@ pub fn put_byte(out: &mut [u8], at: usize, b: u8) -> usize
 pub fn put(out: &mut [u8], at: usize, text: &[u8]) -> usize
     ensures { Put out.old out.new at result text.now }
 {
-    if at < out.len() {
-        let n = text.len().min(out.len() - at);
-        out[at..at + n].copy_from_slice(&text[..n]);
-        return at + n;
+    let mut end = at;
+    for b in text {
+        end = put_byte(out, end, *b);
     }
-    at
+    end
 }
 
 // Spaces up to a column of the line that begins at `start`, one at least.

@@ -1,5 +1,4 @@
 -- `link_blocks::blocks_meet` tests whether two tables of blocks share an address. Assumes nothing.
-use Prim.Native.Nat.{◌-◌}
 use Rattle.link_blocks.proofs.Walk.{left-all, left-none, left-none-other, left-first, left-second, left-met}
 use borrow.Author.Rules.{rules}
 use Rattle.link_blocks.proofs.blocks_meet.Goals as goal

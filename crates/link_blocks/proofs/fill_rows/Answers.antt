@@ -1,5 +1,4 @@
 -- `link_blocks::fill_rows` lays the rows of two tables by start. Assumes nothing.
-use Prim.Native.Nat.{◌-◌}
 use Rattle.link_blocks.proofs.Filled.{rows_none, row-held, row_room, other_held, other-room, rows-first, rows-second, rows_all}
 use borrow.Author.Rules.{rules}
 use Rattle.link_blocks.proofs.fill_rows.Goals as goal

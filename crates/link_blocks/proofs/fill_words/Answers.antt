@@ -1,5 +1,4 @@
 -- `link_blocks::fill_words` lays the words of two tables of blocks by start. Assumes nothing.
-use Prim.Native.Nat.{◌-◌}
 use Rattle.link_blocks.proofs.Filled.{parts_none, part-row, part_held, part_room, other-part-row, other-part-held, other-part-room, parts_first, parts-second, parts_all}
 use borrow.Author.Rules.{rules}
 use Rattle.link_blocks.proofs.fill_words.Goals as goal
